@@ -1,0 +1,31 @@
+-- What the fields of a component stand for, and what they keep.
+use Rattle.std.specs.Prelude.{◌≡◌, ℕ, ◌<◌, ◌==◌, ◌||◌, cond, List, Option, length, map, slice_index}
+use Rattle.std.specs.Int.{bit_at}
+use Rattle.std.specs.String.{string_bytes}
+use Rattle.lb_label.specs.declared.component.Element.{Element}
+use Rattle.lb_label.specs.declared.rule.Kind.{Kind}
+use Rattle.lb_label.specs.declared.rule.Kind.TheVariants.{Tree}
+use Rattle.lb_label.specs.Component.{Definition, IsComponent, rank, descends}
+
+abbrev pub text_of : Element → List ℕ
+text_of e = string_bytes e.text
+
+abbrev pub parent_in : Element → Option ℕ
+parent_in e = e.parent
+
+abbrev pub rank_in : Element → ℕ
+rank_in e = e.rank
+
+abbrev pub line_in : Element → ℕ
+line_in e = e.line
+
+-- the component with these elements in this order
+abbrev pub definition_of : Kind → List Element → List ℕ → Definition
+definition_of kind elements order = record { kind = kind; elements = map text_of elements; order = order; parents = map parent_in elements }
+
+pub record IsKept (kind : Kind) (elements : List Element) (order : List ℕ) : Type 0 where
+  pub valid : IsComponent (definition_of kind elements order)
+  -- each element keeps its rank
+  pub ranks : (e : ℕ) → e < length elements → slice_index (map rank_in elements) e ≡ rank (definition_of kind elements order) e
+  -- and in a TREE itself and its ancestors, as bits
+  pub lines : kind ≡ Tree → (e i : ℕ) → e < length elements → bit_at (slice_index (map line_in elements) e) i ≡ cond ((e == i) || descends (definition_of kind elements order) e i) 1 0

@@ -1,0 +1,36 @@
+-- Labels as lists of elements, and the parts that stand for them.
+use Rattle.std.specs.Prelude.{◌≡◌, ℕ, ◌+◌, ◌^◌, ◌<◌, ◌≤◌, ◌==◌, Bool, List, [], ◌∷◌, length, filter}
+use Rattle.std.specs.Int.{bit_at}
+use Rattle.std.specs.List.{AllZip}
+use Rattle.lb_label.specs.declared.rule.Kind.{Kind}
+use Rattle.lb_label.specs.declared.rule.Kind.TheVariants.{Set, Array, Tree}
+use Rattle.lb_label.specs.Component.{Definition, numbers}
+
+-- Whether a part has an element: in an ARRAY it is the element's number and 1, in a SET or TREE it has the element's bit.
+abbrev pub has_element : Kind → ℕ → ℕ → Bool
+has_element Array part element = part == element + 1
+has_element Set part element = bit_at part element == 1
+has_element Tree part element = bit_at part element == 1
+
+-- the elements that a part has, in the order of adding
+abbrev pub elements_in : Definition → ℕ → List ℕ
+elements_in c part = filter (has_element c.kind part) (numbers (length c.elements))
+
+-- a part has at most one element in an ARRAY, and elements of the component alone
+abbrev pub fits_in : Kind → ℕ → ℕ → Type 0
+fits_in Array n part = part ≤ n
+fits_in Set n part = part < 2 ^ n
+fits_in Tree n part = part < 2 ^ n
+
+abbrev pub IsPart : Definition → ℕ → Type 0
+IsPart c part = fits_in c.kind (length c.elements) part
+
+-- the parts are a label of the policy with these components: a part for each component
+abbrev pub IsLabel : List Definition → List ℕ → Type 0
+IsLabel shape parts = AllZip IsPart shape parts
+
+-- the label that the parts stand for: for each component the list of its elements
+abbrev pub label_of : List Definition → List ℕ → List (List ℕ)
+label_of [] parts = []
+label_of (c ∷ shape) [] = []
+label_of (c ∷ shape) (part ∷ parts) = elements_in c part ∷ label_of shape parts

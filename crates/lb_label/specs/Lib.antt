@@ -1,0 +1,9 @@
+pub mod Component
+pub mod Exemption
+pub mod Kept
+pub mod Label
+pub mod LabelText
+pub mod Outcome
+pub mod Rules
+pub mod Shape
+pub mod Reading

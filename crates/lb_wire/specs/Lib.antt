@@ -1,0 +1,6 @@
+pub mod Causes
+pub mod Days
+pub mod Memory
+pub mod Reading
+pub mod Statuses
+pub mod Told
