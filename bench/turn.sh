@@ -1,9 +1,9 @@
 #!/bin/sh
 # Holds of the turn a second, by 1, 2 and 4 threads, against the same loop over std's Mutex (rustc -O), where rustc is there.
-# usage: bench/turn.sh [HOLDS]   holds that each thread makes, 1,000,000 if left out
+# usage: bench/turn.sh [HOLDS]   holds that each thread makes, 200,000 if left out
 set -eu
 cd "$(dirname "$0")/.."
-holds=${1:-1000000}
+holds=${1:-200000}
 out=$PWD/bench/out
 mkdir -p "$out"
 
