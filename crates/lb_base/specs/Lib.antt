@@ -1,1 +1,3 @@
+pub mod Compare
+pub mod Days
 pub mod Names

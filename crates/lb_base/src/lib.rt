@@ -2,8 +2,10 @@
 #![tactic(auto)]
 
 mod change;
+mod compare;
 mod copy_query;
 mod copy_stmt;
+mod day;
 mod key;
 mod list;
 mod query;
@@ -17,6 +19,8 @@ pub use change::{
     LabelName, LabelPart, MaskDef, PermissionDef, PlainType, PolicyDef, RuleName, Switch,
     TableRight, TreeElement, WriteOption,
 };
+pub use compare::{equal, less, order};
+pub use day::{civil, date_of};
 pub use key::{Key, Ty};
 pub use list::Listing;
 pub use query::{

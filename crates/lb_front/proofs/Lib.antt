@@ -1,0 +1,4 @@
+pub mod Scanned
+pub mod Committed
+pub mod Turned
+pub mod Words

@@ -1,0 +1,7 @@
+pub mod Form
+pub mod Pieces
+pub mod Booked
+pub mod Executed
+pub mod Prepared
+pub mod Headline
+pub mod Running

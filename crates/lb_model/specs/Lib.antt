@@ -1,0 +1,13 @@
+pub mod Catalog
+pub mod Evaluation
+pub mod Visible
+pub mod Answer
+pub mod Change
+pub mod Step
+pub mod Journal
+pub mod Replay
+pub mod Roots
+pub mod NotYet
+pub mod Told
+pub mod Numbers
+pub mod Out

@@ -1,0 +1,15 @@
+use Rattle.std.proofs.Common.{string_bytes}
+use Rattle.std.proofs.lemmas.Result.{err_from_is_err_and}
+use Rattle.lb_tok.specs.Canonical.{column_text, column_of}
+use Rattle.lb_print.proofs.Forms.{adds_more, each_none}
+use Rattle.lb_print.proofs.statement.push_columns.Goals as goal
+
+pub loop-place-preserved : goal.loop-place-preserved
+loop-place-preserved c =
+    adds_more column_of column_text (string_bytes c.args.out.now) (string_bytes c.loop-place.out) (string_bytes c.push_separator.new.out) _ c.args.elements.now c.loop-place.place c.index-elements-place.result c.loop-place-test.true c.index-elements-place.is c.loop-place.invariant c.in_ok-push_separator.ensures c.in_ok-push_element.ensures.printed
+
+-- what the part answered is answered of the whole
+pub returns-in_err-push_element-clause-not_small : goal.returns-in_err-push_element-clause-not_small
+returns-in_err-push_element-clause-not_small c =
+    let p = err_from_is_err_and c.from_residual-in_err-push_element.result c.from_residual-in_err-push_element.ensures.1 in
+    rw (p.1, p.2) (λ r. each_none column_of c.args.elements.now c.loop-place.place c.index-elements-place.result c.loop-place-test.true c.index-elements-place.is (c.in_err-push_element.ensures.not_small r))

@@ -1,0 +1,2 @@
+pub mod Separator
+pub mod Printed

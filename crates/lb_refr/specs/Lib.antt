@@ -1,0 +1,4 @@
+pub mod Stored
+pub mod Leaves
+pub mod Found
+pub mod Texts

@@ -1,0 +1,4 @@
+pub mod Fronts
+pub mod Lexed
+pub mod Parsed
+pub mod Spelling
