@@ -1,6 +1,6 @@
 -- A statement that was run, and one that was not.
-use Rattle.std.proofs.Common.{Bool, true, false, cond, ◌≡◌, ◌⊎◌, inl, inr, ℕ, zero, suc, ◌+◌, ◌<◌, ◌≤◌, ◌^◌, List, [], ◌∷◌, ◌++◌, length, take, Option, Some, None, refl, sym, ap, subst, ◌∙◌, add-zero, zero-add, arith}
-use Rattle.std.specs.Prelude.{ℤ, slice_get, ◌==◌, ◌||◌, nat_lt, count_by, Result, Ok, Err}
+use Rattle.std.proofs.Common.{Bool, true, false, cond, ◌≡◌, ◌⊎◌, inl, inr, ℕ, zero, ◌+◌, ◌<◌, ◌≤◌, ◌^◌, List, [], ◌∷◌, ◌++◌, length, take, Option, Some, None, refl, sym, ap, subst, ◌∙◌, zero-add, arith}
+use Rattle.std.specs.Prelude.{ℤ, slice_get, ◌==◌, ◌||◌, nat_lt, Err}
 use Rattle.std.proofs.Math.Seq.{take-length}
 use Rattle.std.proofs.lemmas.Bool.{ltb-false}
 use Rattle.std.proofs.lemmas.Bool.Decides.{nat_tests}
@@ -8,7 +8,7 @@ use Rattle.std.proofs.lemmas.List.Sums.{fold-append}
 use Rattle.std.proofs.lemmas.List.{take-append-le, length-append}
 use Rattle.lb_base.specs.declared.write.Stmt.{Stmt}
 use Rattle.lb_tok.specs.Canonical.{canonical}
-use Rattle.lb_tok.specs.Spelled.{Spelled, IsSpoken, Reads}
+use Rattle.lb_tok.specs.Spelled.{IsSpoken, Reads}
 use Rattle.lb_tok.proofs.Spelling.{one_statement}
 use Rattle.lb_model.specs.declared.entry.Entry.{Entry}
 use Rattle.lb_model.specs.declared.entry.Entry.TheVariants as entries
@@ -20,10 +20,10 @@ use Rattle.lb_model.specs.declared.reply.Reply.{Reply}
 use Rattle.lb_model.specs.declared.reply.Reply.TheVariants as replies
 use Rattle.lb_model.specs.Catalog.{Cat, Tables}
 use Rattle.lb_model.specs.Answer.{is_query}
-use Rattle.lb_model.specs.Step.{State, first, outcome, step, after}
-use Rattle.lb_model.specs.Journal.{Speaks, IsDay, FollowsSaid, Follows, IsMade, opened_by, said_by, is_said_by}
-use Rattle.lb_model.specs.Replay.{Steps, Replies, Replay, Rep}
-use Rattle.lb_model.specs.NotYet.{IsNotYet, IsBuilt, is_unbuilt, goes_past}
+use Rattle.lb_model.specs.Step.{State, first, step, after}
+use Rattle.lb_model.specs.Journal.{Speaks, IsDay, FollowsSaid, Follows, opened_by, said_by, is_said_by}
+use Rattle.lb_model.specs.Replay.{Steps, Replay, Rep}
+use Rattle.lb_model.specs.NotYet.{is_unbuilt, goes_past}
 use Rattle.lb_model.specs.Told.{Placed, IsUnplaced, Unplaced, mark_of}
 use Rattle.lb_model.proofs.One.{runs_more}
 use Rattle.lb_model.proofs.Grows.{get_end, made_more, opened_more}

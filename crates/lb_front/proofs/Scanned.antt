@@ -1,11 +1,11 @@
 -- Going through a text byte by byte, and piece by piece.
-use Rattle.std.proofs.Common.{Bool, true, false, cond, ◌≡◌, ℕ, zero, suc, ◌+◌, ◌-◌, ◌<◌, ◌≤◌, List, [], ◌∷◌, ◌++◌, length, take, drop, get_or, Option, Some, None, refl, sym, ap, subst, ◌∙◌, map, filter, length-drop, arith}
+use Rattle.std.proofs.Common.{Bool, true, false, cond, ◌≡◌, ℕ, zero, suc, ◌+◌, ◌-◌, ◌<◌, ◌≤◌, List, [], ◌∷◌, length, take, drop, get_or, refl, sym, ap, subst, ◌∙◌, map, filter, length-drop, arith}
 use Rattle.std.proofs.lemmas.List.{take_all}
 use Rattle.std.proofs.Math.Seq.{drop-cons}
 use Rattle.std.specs.Prelude.{not, ◌&&◌, nat_eq}
 use Rattle.std.specs.List.{starts_with, list_all}
-use Rattle.lb_front.specs.Form.{header, body, is_form, is_plain, IsBody, toggled, ends_piece, starts_comment, has_comment, pieces, put_first, trimmed, is_some_text, statements}
-use Rattle.lb_front.specs.Pieces.{piece_len, statements_in, unless_empty}
+use Rattle.lb_front.specs.Form.{header, body, is_form, is_plain, IsBody, toggled, ends_piece, starts_comment, has_comment, pieces, trimmed, is_some_text, statements}
+use Rattle.lb_front.specs.Pieces.{piece_len, unless_empty}
 
 drop_at : (text : List ℕ) (i d : ℕ) → i < length text → drop i text ≡ get_or text i d ∷ drop (i + 1) text
 drop_at text i d lt = let k : i + 1 ≡ suc i = omega arith in rw k (drop-cons text i d lt)

@@ -2,7 +2,6 @@
 use Rattle.std.specs.Prelude.{ℕ, ℤ, ◌≡◌, ◌⊎◌, ◌≤◌, ◌<◌, List, [], ◌∷◌, ◌++◌, true, false, codes, flat_map, Option, Some, None, take, length, slice_get}
 use Rattle.std.specs.Io.KnownBytes.{Appends}
 use Rattle.lb_wire.specs.Told.{Took, TookAll, AppendsPart, Grows}
-use Rattle.lb_wire.specs.Causes.{Rose}
 use Rattle.lb_wire.specs.declared.status.Status.{Status}
 use Rattle.lb_wire.specs.declared.status.Status.TheVariants as statuses
 use Rattle.lb_model.specs.declared.entry.Entry.{Entry}

@@ -2,7 +2,7 @@ use Rattle.std.proofs.Common.{◌≡◌, w32, rules}
 use Rattle.std.proofs.lemmas.Int.{to_z-of_z}
 use mir.Val.{to_z, of_z, SFits}
 use Rattle.lb_front.specs.Form.{statements}
-use Rattle.lb_front.proofs.Turned.{not_begun, looping_first, looping_on, looping_cut, looping_ends, cut_ends}
+use Rattle.lb_front.proofs.Turned.{not_begun, looping_first, looping_on, looping_cut, cut_ends}
 use Rattle.lb_front.proofs.run.run_session.Goals as goal
 
 pub loop-statement-init : goal.loop-statement-init

@@ -1,4 +1,3 @@
-use Rattle.std.proofs.Common.{◌≡◌, sym, subst, ◌∙◌, ap, refl}
 use Rattle.lb_front.proofs.Committed.{unplaced_by, left_of, executed_left}
 use Rattle.lb_front.proofs.book.Book.execute.Goals as goal
 
