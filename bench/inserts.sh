@@ -1,8 +1,8 @@
-#!/bin/sh
+#!/usr/bin/env bash
 # Times one-row INSERTs into one table: a script of 20,000 against one of 10,000. Run a whole `rt ci`, or `rt run` in
 # crates/lbac_script, first: the program then stands in crates/lbac_script/out.
-# Prints the least of five times of each in milliseconds, and their ratio. With no copy of the table for each statement
-# the ratio is about 2.
+# Prints the processor time of each in milliseconds, on the average of twenty runs, and their ratio. With no copy of the
+# table for each statement the ratio is about 2.
 cd "$(dirname "$0")/.." || exit 1
 program=crates/lbac_script/out/lbac_script
 [ -x "$program" ] || { echo "no $program: run 'rt run' in crates/lbac_script first" >&2; exit 1; }
@@ -13,19 +13,15 @@ script() {
     echo "CREATE TABLE NOTES (OWNER VARCHAR(20), BODY VARCHAR(40));"
     awk -v n="$1" 'BEGIN { for (i = 0; i < n; i++) printf "INSERT INTO NOTES VALUES (\047SECADMIN\047, \047note %d\047);\n", i }'
 }
-least() {
-    best=
-    for _ in 1 2 3 4 5; do
-        start=$(date +%s%N)
-        "$program" run <"$1" >"$folder/out" || exit 1
-        end=$(date +%s%N)
-        time=$(( (end - start) / 1000 ))
-        if [ -z "$best" ] || [ "$time" -lt "$best" ]; then best=$time; fi
-    done
-    echo "$best"
+runs() {
+    for _ in {1..20}; do "$program" run <"$1" >"$folder/out" || exit 1; done
+}
+# The user's and the system's seconds of twenty runs.
+seconds() {
+    local TIMEFORMAT='%U %S'
+    { time runs "$1" >"$folder/log" 2>&1; } 2>&1
 }
 script 10000 >"$folder/small.sql"
 script 20000 >"$folder/large.sql"
-small=$(least "$folder/small.sql")
-large=$(least "$folder/large.sql")
-awk -v a="$small" -v b="$large" 'BEGIN { printf "10000 INSERTs: %.1f ms, 20000: %.1f ms, ratio %.2f\n", a / 1000, b / 1000, b / a }'
+echo "$(seconds "$folder/small.sql") $(seconds "$folder/large.sql")" |
+    awk '{ a = ($1 + $2) * 50; b = ($3 + $4) * 50; printf "10000 INSERTs: %.1f ms, 20000: %.1f ms, ratio %.2f\n", a, b, b / a }'
