@@ -1,0 +1,4 @@
+pub mod Scanned
+pub mod Pieced
+pub mod Worded
+pub mod Sectioned
