@@ -7,9 +7,9 @@ use Rattle.std.proofs.lemmas.Bool.Decides.{nat_tests}
 use Rattle.std.proofs.lemmas.List.Sums.{fold-append}
 use Rattle.std.proofs.lemmas.List.{take-append-le, length-append}
 use Rattle.lb_base.specs.declared.write.Stmt.{Stmt}
-use Rattle.lb_tok.specs.Canonical.{canonical}
-use Rattle.lb_tok.specs.Spelled.{IsSpoken, Reads}
-use Rattle.lb_tok.proofs.Spelling.{one_statement}
+use Rattle.lb_small_tok.specs.Canonical.{canonical}
+use Rattle.lb_small_tok.specs.Spelled.{IsSpoken, Reads}
+use Rattle.lb_small_tok.proofs.Spelling.{one_statement}
 use Rattle.lb_model.specs.declared.entry.Entry.{Entry}
 use Rattle.lb_model.specs.declared.entry.Entry.TheVariants as entries
 use Rattle.lb_model.specs.declared.entry.Said.{Said}
@@ -27,9 +27,9 @@ use Rattle.lb_model.specs.NotYet.{is_unbuilt, goes_past}
 use Rattle.lb_model.specs.Told.{Placed, IsUnplaced, Unplaced, mark_of}
 use Rattle.lb_model.proofs.One.{runs_more}
 use Rattle.lb_model.proofs.Grows.{get_end, made_more, opened_more}
-use Rattle.lb_read.specs.declared.fault.ReadFault.{ReadFault}
-use Rattle.lb_read.specs.declared.fault.ReadFault.TheVariants as faults
-use Rattle.lb_read.specs.Answers.{Answers}
+use Rattle.lb_small_read.specs.declared.fault.ReadFault.{ReadFault}
+use Rattle.lb_small_read.specs.declared.fault.ReadFault.TheVariants as faults
+use Rattle.lb_small_read.specs.Answers.{Answers}
 use Rattle.lb_refr.specs.Stored.{Stored}
 use Rattle.lb_front.specs.declared.book.Session.{Session}
 use Rattle.lb_front.specs.declared.book.Prepared.{Prepared}

@@ -3,7 +3,7 @@ use Rattle.std.specs.Prelude.{◌≡◌, ℕ, Bool, true, false, not, ◌&&◌, 
 use Rattle.std.specs.List.{list_all, prefix_len, starts_with}
 use Rattle.std.specs.Str.{bytes_eq}
 use Rattle.std.specs.Char.{to_ascii_uppercase}
-use Rattle.lb_tok.specs.Tokens.{is_blank}
+use Rattle.lb_small_tok.specs.Tokens.{is_blank}
 
 -- the one first line
 abbrev pub header : List ℕ

@@ -1,7 +1,7 @@
 -- A statement that is to be run, and why one is not.
 use Rattle.std.specs.Prelude.{ℕ, ℤ, ◌≡◌, ◌<◌, ◌⊎◌, true, List, length}
 use Rattle.lb_base.specs.declared.write.Stmt.{Stmt}
-use Rattle.lb_tok.specs.Canonical.{canonical}
+use Rattle.lb_small_tok.specs.Canonical.{canonical}
 use Rattle.lb_model.specs.declared.entry.Entry.{Entry}
 use Rattle.lb_model.specs.declared.reply.Reply.{Reply}
 use Rattle.lb_model.specs.declared.reply.Reply.TheVariants as replies
@@ -9,8 +9,8 @@ use Rattle.lb_model.specs.declared.reply.Refusal.TheVariants as refusals
 use Rattle.lb_model.specs.Answer.{is_query}
 use Rattle.lb_model.specs.Step.{outcome}
 use Rattle.lb_model.specs.NotYet.{IsNotYet, IsBuilt, rows_given}
-use Rattle.lb_read.specs.declared.fault.ReadFault.{ReadFault}
-use Rattle.lb_read.specs.declared.fault.ReadFault.TheVariants as faults
+use Rattle.lb_small_read.specs.declared.fault.ReadFault.{ReadFault}
+use Rattle.lb_small_read.specs.declared.fault.ReadFault.TheVariants as faults
 use Rattle.lb_refr.specs.Stored.{Stored}
 use Rattle.lb_front.specs.declared.book.Session.{Session}
 use Rattle.lb_front.specs.declared.book.Prepared.{Prepared}

@@ -1,6 +1,6 @@
 // The journal of a run, and the one call by which a session's statement is run.
 ghost use Rattle.std.specs.Prelude.{◌≡◌, ◌<◌, ◌≤◌, ◌^◌, [], ◌∷◌, length, nat_lt, IfOk, IfErr, OnOk, OnErr, Some, None};
-ghost use Rattle.lb_tok.specs.Canonical.{canonical as canonical_text};
+ghost use Rattle.lb_small_tok.specs.Canonical.{canonical as canonical_text};
 ghost use Rattle.lb_wire.specs.Days.{IsDay};
 ghost use Rattle.lb_model.specs.declared.entry.Entry.TheVariants as entries;
 ghost use Rattle.lb_model.specs.declared.reply.Mark.TheVariants as marks;
@@ -15,8 +15,8 @@ ghost use Rattle.lb_front.specs.Prepared.{stop_of, IsReady, IsStopped, Did, stop
 use lb_base::{Name, Names, NoMemory, RowList, Stmt, Str};
 use lb_model::{Answer, Entry, Mark, Refusal, Reply, Said};
 use lb_print::canonical;
-use lb_read::{ReadFault, read};
 use lb_refr::{Store, given_rows};
+use lb_small_read::{ReadFault, read};
 use std::alloc::{AllocError, Global};
 
 /// A session that was opened.

@@ -1,7 +1,7 @@
 // The form of the input, and its statements one after the other.
 ghost use Rattle.std.specs.Prelude.{◌≡◌, ◌∷◌, ◌≤◌, [], IsTrue, not, ◌&&◌, MatchOption, option_map, length, false, drop};
 ghost use Rattle.std.specs.List.{list_all, prefix_len};
-ghost use Rattle.lb_tok.specs.Tokens.{is_blank as is_white};
+ghost use Rattle.lb_small_tok.specs.Tokens.{is_blank as is_white};
 ghost use Rattle.lb_front.specs.Form.{begins, IsBody, is_form as has_form, has_comment as with_comment, statements, is_plain as plain, is_quit as quits, starts_comment as comment_here, ends_piece as ends, toggled as toggles, trimmed};
 ghost use Rattle.lb_front.specs.Pieces.{piece_len, statements_in, unless_empty, size_of};
 

@@ -3,8 +3,8 @@ use Rattle.std.proofs.Common.{◌≡◌, ℕ, zero, suc, ◌+◌, ◌<◌, ◌�
 use Rattle.std.specs.Prelude.{slice_get}
 use Rattle.std.proofs.lemmas.List.{append-nil}
 use Rattle.lb_base.specs.declared.write.Stmt.{Stmt}
-use Rattle.lb_tok.specs.Canonical.{canonical}
-use Rattle.lb_tok.proofs.Spelling.{same_text}
+use Rattle.lb_small_tok.specs.Canonical.{canonical}
+use Rattle.lb_small_tok.proofs.Spelling.{same_text}
 use Rattle.lb_model.specs.declared.entry.Said.{Said}
 use Rattle.lb_model.specs.declared.entry.Entry.{Entry}
 use Rattle.lb_model.specs.declared.entry.Entry.TheVariants as entries

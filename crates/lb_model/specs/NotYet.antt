@@ -8,8 +8,8 @@ use Rattle.lb_base.specs.declared.key.Ty.TheVariants as types
 use Rattle.lb_base.specs.declared.write.Stmt.{Stmt}
 use Rattle.lb_base.specs.declared.write.Stmt.TheVariants as stmts
 use Rattle.lb_base.specs.declared.change.Change.TheVariants as changes
-use Rattle.lb_tok.specs.Canonical.{canonical}
-use Rattle.lb_tok.specs.Spelled.{Reads}
+use Rattle.lb_small_tok.specs.Canonical.{canonical}
+use Rattle.lb_small_tok.specs.Spelled.{Reads}
 use Rattle.lb_model.specs.declared.catalog.ColumnRec.{ColumnRec}
 use Rattle.lb_model.specs.declared.catalog.TableRec.{TableRec}
 use Rattle.lb_model.specs.Catalog.{Cat, Tables, table_named, rows_of}

@@ -3,8 +3,8 @@ use Rattle.std.specs.Prelude.{ℕ, List, [], ◌∷◌, ◌++◌, codes, flat_ma
 use Rattle.std.specs.Fmt.{decimal, signed_decimal}
 use Rattle.lb_base.specs.declared.value.Value.{Value}
 use Rattle.lb_base.specs.declared.value.Value.TheVariants as values
-use Rattle.lb_tok.specs.Canonical.{listed}
-use Rattle.lb_tok.specs.Tokens.{quoted}
+use Rattle.lb_small_tok.specs.Canonical.{listed}
+use Rattle.lb_small_tok.specs.Tokens.{quoted}
 use Rattle.lb_model.specs.declared.reply.Answer.{Answer}
 use Rattle.lb_model.specs.declared.reply.Mark.{Mark}
 use Rattle.lb_model.specs.declared.reply.Mark.TheVariants as marks

@@ -1,7 +1,7 @@
 -- What a session is told: one answer for each of its statements, each right by the journal.
 use Rattle.std.specs.Prelude.{ℕ, zero, suc, ℤ, ◌≡◌, ◌⊎◌, ◌+◌, ◌≤◌, Bool, true, false, List, [], ◌∷◌, take, length, slice_get, Option, None, Some}
 use Rattle.lb_base.specs.declared.write.Stmt.{Stmt}
-use Rattle.lb_tok.specs.Canonical.{canonical}
+use Rattle.lb_small_tok.specs.Canonical.{canonical}
 use Rattle.lb_model.specs.declared.entry.Said.{Said}
 use Rattle.lb_model.specs.declared.entry.Entry.{Entry}
 use Rattle.lb_model.specs.declared.entry.Entry.TheVariants as entries

@@ -3,7 +3,7 @@ use Rattle.std.proofs.Common.{Bool, true, false, cond, ◌≡◌, ℕ, List, [],
 use Rattle.std.proofs.lemmas.Bool.Decides.{nat_tests}
 use lib.Utf8.{encode, next}
 use Rattle.std.specs.Prelude.{◌==◌}
-use Rattle.lb_tok.specs.Tokens.{doubled}
+use Rattle.lb_small_tok.specs.Tokens.{doubled}
 
 step : (b : Bool) (x : ℕ) (xs ys : List ℕ) → cond b (39 ∷ 39 ∷ (xs ++ ys)) (x ∷ (xs ++ ys)) ≡ cond b (39 ∷ 39 ∷ xs) (x ∷ xs) ++ ys
 step true x xs ys = refl

@@ -7,8 +7,8 @@ use Rattle.lb_base.specs.declared.write.Insert.{Insert}
 use Rattle.lb_base.specs.declared.write.InsertSource.TheVariants as sources
 use Rattle.lb_base.specs.declared.change.Element.{Element}
 use Rattle.lb_base.specs.declared.change.Change.TheVariants as changes
-use Rattle.lb_tok.specs.Grammar.{TextColumn, insert, table}
-use Rattle.lb_tok.specs.Canonical.{◌>>=◌, each, listed, literal_text_of, column_of, insert_of, change_of}
+use Rattle.lb_small_tok.specs.Grammar.{TextColumn, insert, table}
+use Rattle.lb_small_tok.specs.Canonical.{◌>>=◌, each, listed, literal_text_of, column_of, insert_of, change_of}
 use Rattle.lb_print.specs.Printed.{Adds}
 use Rattle.lb_print.specs.Separator.{separator}
 use Rattle.lb_print.proofs.Parts.{listed_and}

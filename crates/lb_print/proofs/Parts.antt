@@ -2,7 +2,7 @@
 use Rattle.std.proofs.Common.{◌≡◌, ℕ, ◌+◌, ◌<◌, List, [], ◌∷◌, ◌++◌, length, take, get_or, refl, ap, ◌∙◌, append_assoc, arith}
 use Rattle.std.proofs.lemmas.List.{take_more, length-take-le}
 use Rattle.std.specs.Prelude.{codes}
-use Rattle.lb_tok.specs.Canonical.{listed}
+use Rattle.lb_small_tok.specs.Canonical.{listed}
 use Rattle.lb_model.specs.Out.{joined}
 use Rattle.lb_print.specs.Separator.{separator}
 

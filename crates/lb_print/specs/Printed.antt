@@ -5,7 +5,7 @@ use Rattle.lb_base.specs.declared.query.Cond.TheViews.{out-Expr}
 use Rattle.lb_base.specs.declared.change.PlainType.TheVariants as plains
 use Rattle.lb_base.specs.declared.change.ColumnType.{ColumnType}
 use Rattle.lb_base.specs.declared.change.ColumnType.TheVariants as types
-use Rattle.lb_tok.specs.Canonical.{◌>>=◌, atom_in, compared}
+use Rattle.lb_small_tok.specs.Canonical.{◌>>=◌, atom_in, compared}
 
 -- the part has a form, and its text went to the end
 abbrev pub Adds : {A : Type 0} → (A → List ℕ) → Option A → List ℕ → List ℕ → Type 0

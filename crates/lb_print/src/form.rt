@@ -2,7 +2,7 @@
 ghost use Rattle.std.specs.Prelude.{◌≡◌};
 ghost use Rattle.std.specs.Option.{option_copied};
 ghost use Rattle.lb_base.specs.declared.query.Cond.TheViews.{out-Expr, out-Cond, out-Item, out-Chain, out-Query};
-ghost use Rattle.lb_tok.specs.Canonical.{atom_in, literal_text_of, table_of, unless_given, column_in, is_everything, chain_in, table_in};
+ghost use Rattle.lb_small_tok.specs.Canonical.{atom_in, literal_text_of, table_of, unless_given, column_in, is_everything, chain_in, table_in};
 ghost use Rattle.lb_print.specs.Printed.{column_beside, width_of};
 
 use lb_base::{

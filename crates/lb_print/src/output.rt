@@ -1,6 +1,6 @@
 // The lines of output: the block of an answer, and the header line of a section.
 ghost use Rattle.std.specs.Prelude.{◌≡◌, ◌++◌, IfOk, OnOk, string_bytes, flat_map};
-ghost use Rattle.lb_tok.specs.Canonical.{listed};
+ghost use Rattle.lb_small_tok.specs.Canonical.{listed};
 ghost use Rattle.lb_model.specs.Out.{block_text, header_text, place_text, mark_text as mark_meant, verb_text as verb_meant, reply_text, reason_text, refusal_text, tried_text, joined, row_line, value_text};
 
 use crate::text::{push_quoted, push_separator};

@@ -1,7 +1,7 @@
 // The canonical text of a statement.
 ghost use Rattle.std.specs.Prelude.{◌≡◌, ◌++◌, IfOk, OnOk, string_bytes};
-ghost use Rattle.lb_tok.specs.Tokens.{quoted};
-ghost use Rattle.lb_tok.specs.Canonical.{canonical as canonical_text, listed, each, text_of, row_text, column_text, column_of, literal_text_of, form_of, column_from, select_from, insert_of, change_of};
+ghost use Rattle.lb_small_tok.specs.Tokens.{quoted};
+ghost use Rattle.lb_small_tok.specs.Canonical.{canonical as canonical_text, listed, each, text_of, row_text, column_text, column_of, literal_text_of, form_of, column_from, select_from, insert_of, change_of};
 ghost use Rattle.lb_print.specs.Printed.{Adds};
 ghost use Rattle.lb_print.specs.declared.statement.Unprinted.TheVariants.{NoMemory as memory_refused};
 

@@ -1,6 +1,6 @@
 // Pieces that go to the end of a text: separators, and texts between quotes.
 ghost use Rattle.std.specs.Prelude.{◌≡◌, ◌++◌, OnOk, string_bytes, encode_utf8};
-ghost use Rattle.lb_tok.specs.Tokens.{doubled, quoted};
+ghost use Rattle.lb_small_tok.specs.Tokens.{doubled, quoted};
 ghost use Rattle.lb_print.specs.Separator.{separator};
 
 use lb_base::NoMemory;

@@ -1,6 +1,6 @@
 use Rattle.std.proofs.Common.{◌≡◌, ◌+◌, ◌-◌, ◌≤◌, length, drop}
 use Rattle.std.specs.List.{prefix_len}
-use Rattle.lb_tok.specs.Tokens.{is_blank}
+use Rattle.lb_small_tok.specs.Tokens.{is_blank}
 use Rattle.lb_front.proofs.script.blanks.Given as goal
 
 abbrev pub invariant-loop-len : goal.invariant-loop-len

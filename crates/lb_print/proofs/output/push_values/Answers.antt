@@ -1,6 +1,6 @@
 use Rattle.std.proofs.Common.{string_bytes}
 use Rattle.std.specs.Prelude.{codes}
-use Rattle.lb_tok.specs.Canonical.{listed}
+use Rattle.lb_small_tok.specs.Canonical.{listed}
 use Rattle.lb_model.specs.Out.{value_text}
 use Rattle.lb_print.proofs.Parts.{parts_more, listed_and}
 use Rattle.lb_print.proofs.output.push_values.Goals as goal

@@ -1,5 +1,5 @@
 use Rattle.std.proofs.Common.{◌≡◌, ◌++◌, take, string_bytes}
-use Rattle.lb_tok.specs.Canonical.{listed}
+use Rattle.lb_small_tok.specs.Canonical.{listed}
 use Rattle.lb_model.specs.Out.{value_text}
 use Rattle.lb_print.proofs.output.push_values.Given as goal
 

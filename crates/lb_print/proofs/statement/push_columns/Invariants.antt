@@ -1,5 +1,5 @@
 use Rattle.std.proofs.Common.{take, string_bytes}
-use Rattle.lb_tok.specs.Canonical.{listed, each, column_text, column_of}
+use Rattle.lb_small_tok.specs.Canonical.{listed, each, column_text, column_of}
 use Rattle.lb_print.specs.Printed.{Adds}
 use Rattle.lb_print.proofs.statement.push_columns.Given as goal
 

@@ -1,6 +1,6 @@
 use Rattle.std.proofs.Common.{rules, append_assoc}
 use Rattle.std.proofs.lemmas.Result.{on_ok_weaker}
-use Rattle.lb_tok.specs.Grammar.{insert}
+use Rattle.lb_small_tok.specs.Grammar.{insert}
 use Rattle.lb_print.proofs.Forms.{insert_is}
 use Rattle.lb_print.proofs.statement.push_insert.Goals as goal
 

@@ -1,7 +1,7 @@
 use Rattle.std.proofs.Common.{string_bytes}
 use Rattle.std.proofs.lemmas.Result.{err_from_is_err_and}
-use Rattle.lb_tok.specs.Tokens.{quoted}
-use Rattle.lb_tok.specs.Canonical.{literal_text_of}
+use Rattle.lb_small_tok.specs.Tokens.{quoted}
+use Rattle.lb_small_tok.specs.Canonical.{literal_text_of}
 use Rattle.lb_print.proofs.Forms.{adds_more, each_none}
 use Rattle.lb_print.proofs.statement.push_literals.Goals as goal
 

@@ -1,6 +1,6 @@
 use Rattle.std.proofs.Common.{take, string_bytes}
-use Rattle.lb_tok.specs.Tokens.{quoted}
-use Rattle.lb_tok.specs.Canonical.{listed, each, literal_text_of}
+use Rattle.lb_small_tok.specs.Tokens.{quoted}
+use Rattle.lb_small_tok.specs.Canonical.{listed, each, literal_text_of}
 use Rattle.lb_print.specs.Printed.{Adds}
 use Rattle.lb_print.proofs.statement.push_literals.Given as goal
 

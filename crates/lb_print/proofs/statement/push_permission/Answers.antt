@@ -1,5 +1,5 @@
 use Rattle.std.proofs.Common.{rules, append_assoc}
-use Rattle.lb_tok.specs.Grammar.{permission}
+use Rattle.lb_small_tok.specs.Grammar.{permission}
 use Rattle.lb_print.proofs.statement.push_permission.Goals as goal
 
 pub returns-clause-printed : goal.returns-clause-printed

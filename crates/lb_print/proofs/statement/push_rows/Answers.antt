@@ -1,6 +1,6 @@
 use Rattle.std.proofs.Common.{string_bytes}
 use Rattle.std.proofs.lemmas.Result.{err_from_is_err_and}
-use Rattle.lb_tok.specs.Canonical.{each, row_text, literal_text_of}
+use Rattle.lb_small_tok.specs.Canonical.{each, row_text, literal_text_of}
 use Rattle.lb_print.proofs.Forms.{adds_more, each_none}
 use Rattle.lb_print.proofs.statement.push_rows.Goals as goal
 

@@ -1,5 +1,5 @@
 use Rattle.std.proofs.Common.{rules, append_assoc}
-use Rattle.lb_tok.specs.Grammar.{table}
+use Rattle.lb_small_tok.specs.Grammar.{table}
 use Rattle.lb_print.proofs.Forms.{table_is}
 use Rattle.lb_print.proofs.statement.push_table.Goals as goal
 

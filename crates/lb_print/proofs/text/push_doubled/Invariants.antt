@@ -1,6 +1,6 @@
 use Rattle.std.proofs.Common.{◌≡◌, ◌++◌, string_bytes}
 use Rattle.std.specs.Str.Iter.{chars_rest}
-use Rattle.lb_tok.specs.Tokens.{doubled}
+use Rattle.lb_small_tok.specs.Tokens.{doubled}
 use Rattle.lb_print.proofs.text.push_doubled.Given as goal
 
 -- what is out and what is left are all of it
