@@ -1,0 +1,17 @@
+pub mod Canonical
+pub mod ChangePieces
+pub mod Changes
+pub mod Dates
+pub mod Faults
+pub mod Form
+pub mod Grammar
+pub mod Kinds
+pub mod Lexing
+pub mod Limit
+pub mod QueryPieces
+pub mod Refusals
+pub mod Scanning
+pub mod Spacing
+pub mod Spelled
+pub mod Syntax
+pub mod Words
