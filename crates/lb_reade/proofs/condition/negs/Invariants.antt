@@ -1,0 +1,11 @@
+-- What was read so far, and what is still to be read, are the whole.
+use Rattle.std.proofs.Common.{◌≡◌, ◌-◌, length}
+use Rattle.lb_tok.specs.declared.kind.Kind.TheVariants as kinds
+use Rattle.lb_tok.specs.Kinds.{only}
+use Rattle.lb_reade.specs.Readers.{many, turns, after}
+use Rattle.lb_reade.specs.Expressions.{neg_at}
+use Rattle.lb_reade.proofs.Turned.{with_front}
+use Rattle.lb_reade.proofs.condition.negs.Given as goal
+
+abbrev pub invariant-loop : goal.invariant-loop
+invariant-loop g l = with_front l.parts (turns (length l.tokens - l.counter) (only kinds.And) (after kinds.And (neg_at (g.B.Brackets.readers l.brackets))) l.rest) ≡ many (only kinds.And) (after kinds.And (neg_at (g.B.Brackets.readers l.brackets))) l.tokens

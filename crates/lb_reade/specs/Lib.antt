@@ -1,0 +1,4 @@
+pub mod Answering
+pub mod Bracketed
+pub mod Expressions
+pub mod Readers

@@ -1,0 +1,78 @@
+// What readers ask of whatever reads in their brackets.
+ghost use Rattle.lb_reade.specs.Readers.{open_at};
+ghost use Rattle.lb_reade.specs.Expressions.{Readers};
+ghost use Rattle.lb_reade.specs.Answering.{Gives, mixed_of};
+ghost use Rattle.lb_reade.specs.Bracketed.{inner_of, within};
+
+use crate::fault::{Fault, Read};
+use crate::inside::{Inside, Mixed, Wanted};
+use lb_base::{Cond, Expr, Query};
+use lb_tok::{Kind, Token};
+use std::alloc::Global;
+
+/// Opens brackets and reads what stands in them, where a certain number of brackets may still open.
+pub trait Brackets<'a> {
+    /// Whether a bracket may open, and what each kind of content is read by.
+    ghost readers: { Self → Readers };
+
+    /// Holds where a bracket's content may be read.
+    ghost ready: { Self → Type 0 };
+
+    /// Takes an opener, a parenthesis or CASE. `Bad` at another token, `Deep` at an opener for which no room is left.
+    fn open(&self, tokens: &'a [Token], kind: Kind) -> Result<&'a [Token], Fault<'a>>
+        ensures { Gives (λ r. (tt, r.now)) result (open_at (readers self.now).room kind tokens.now) };
+
+    /// Reads what stands behind an opener that was taken, as the kind of content that is wanted.
+    fn inside(&self, alloc: Global, tokens: &'a [Token], wanted: Wanted) -> Read<'a, Inside>
+        requires { ready self.now }
+        ensures { Gives (λ r. (inner_of r.0, r.1.now)) result (within (readers self.now) wanted tokens.now) };
+
+    /// Reads an expression in a bracket.
+    final fn expr(&self, alloc: Global, tokens: &'a [Token]) -> Read<'a, Expr>
+        requires { ready self.now }
+        ensures { Gives (λ r. (r.0, r.1.now)) result ((readers self.now).expr tokens.now) }
+    {
+        let (inside, rest) = self.inside(alloc, tokens, Wanted::Expr)?;
+        match inside {
+            Inside::Expr(value) => Ok((value, rest)),
+            _ => unreachable!(),
+        }
+    }
+
+    /// Reads a condition in a bracket.
+    final fn condition(&self, alloc: Global, tokens: &'a [Token]) -> Read<'a, Cond>
+        requires { ready self.now }
+        ensures { Gives (λ r. (r.0, r.1.now)) result ((readers self.now).condition tokens.now) }
+    {
+        let (inside, rest) = self.inside(alloc, tokens, Wanted::Condition)?;
+        match inside {
+            Inside::Condition(value) => Ok((value, rest)),
+            _ => unreachable!(),
+        }
+    }
+
+    /// Reads a condition in a bracket, or an expression with which a condition may begin.
+    final fn mixed(&self, alloc: Global, tokens: &'a [Token]) -> Read<'a, Mixed>
+        requires { ready self.now }
+        ensures { Gives (λ r. (mixed_of r.0, r.1.now)) result ((readers self.now).mixed tokens.now) }
+    {
+        let (inside, rest) = self.inside(alloc, tokens, Wanted::Mixed)?;
+        match inside {
+            Inside::Condition(value) => Ok((Mixed::Cond(value), rest)),
+            Inside::Expr(value) => Ok((Mixed::Expr(value), rest)),
+            _ => unreachable!(),
+        }
+    }
+
+    /// Reads a query in a bracket.
+    final fn query(&self, alloc: Global, tokens: &'a [Token]) -> Read<'a, Query>
+        requires { ready self.now }
+        ensures { Gives (λ r. (r.0, r.1.now)) result ((readers self.now).query tokens.now) }
+    {
+        let (inside, rest) = self.inside(alloc, tokens, Wanted::Query)?;
+        match inside {
+            Inside::Query(value) => Ok((value, rest)),
+            _ => unreachable!(),
+        }
+    }
+}
