@@ -1,0 +1,7 @@
+pub mod Joins
+pub mod Levels
+pub mod Offsets
+pub mod Queries
+pub mod Rooms
+pub mod Whole
+pub mod Writes

@@ -1,0 +1,100 @@
+// Queries, clause by clause.
+ghost use Rattle.std.specs.Prelude.{◌<◌, Some, None};
+ghost use Rattle.lb_reade.specs.Readers.{flag};
+ghost use Rattle.lb_reade.specs.Answering.{Gives};
+ghost use Rattle.lb_readq.specs.Queries.{where_at, having_at, group_at, query_at};
+
+use crate::item::items;
+use crate::table::{chain, chains};
+use lb_base::{Column, Cond, Query};
+use lb_reade::{Brackets, Read, column, columns, cond, flag, next_is, take, with_first};
+use lb_tok::{Kind, Token};
+use sqlite_items::{Boxed, Items};
+use std::alloc::Global;
+
+// [WHERE cond]
+#[tactic(auto, unfolding(crate::specs::Queries::where_at))]
+fn filter<'a, B: Brackets<'a>>(
+    alloc: Global,
+    tokens: &'a [Token],
+    brackets: &B,
+) -> Read<'a, Option<Boxed<Cond>>>
+    requires { B.ready brackets.now }
+    ensures { Gives (λ r. (r.0, r.1.now)) result (where_at (B.readers brackets.now) tokens.now) }
+{
+    if next_is(tokens, Kind::Where) {
+        let rest = take(tokens, Kind::Where)?;
+        let (value, rest) = cond(alloc, rest, brackets)?;
+        Ok((Some(Boxed::new(alloc, value)?), rest))
+    } else {
+        Ok((None, tokens))
+    }
+}
+
+// [HAVING cond]
+#[tactic(auto, unfolding(crate::specs::Queries::having_at))]
+fn having<'a, B: Brackets<'a>>(
+    alloc: Global,
+    tokens: &'a [Token],
+    brackets: &B,
+) -> Read<'a, Option<Boxed<Cond>>>
+    requires { B.ready brackets.now }
+    ensures { Gives (λ r. (r.0, r.1.now)) result (having_at (B.readers brackets.now) tokens.now) }
+{
+    if next_is(tokens, Kind::Having) {
+        let rest = take(tokens, Kind::Having)?;
+        let (value, rest) = cond(alloc, rest, brackets)?;
+        Ok((Some(Boxed::new(alloc, value)?), rest))
+    } else {
+        Ok((None, tokens))
+    }
+}
+
+// [GROUP BY col {, col}]
+#[tactic(auto, unfolding(crate::specs::Queries::group_at))]
+fn group<'a>(alloc: Global, tokens: &'a [Token]) -> Read<'a, Items<Column>>
+    ensures { Gives (λ r. (r.0, r.1.now)) result (group_at tokens.now) }
+{
+    if next_is(tokens, Kind::Group) {
+        let rest = take(tokens, Kind::Group)?;
+        let rest = take(rest, Kind::By)?;
+        let (first, rest) = column(rest)?;
+        let (more, rest) = columns(alloc, rest)?;
+        Ok((with_first(alloc, first, more)?, rest))
+    } else {
+        Ok((Items::new(alloc), tokens))
+    }
+}
+
+/// Reads a query without order, `SELECT [DISTINCT] items FROM chain {, chain} [WHERE cond] [GROUP BY col {, col}] [HAVING cond]`.
+#[tactic(auto, unfolding(crate::specs::Queries::query_at))]
+pub fn query<'a, B: Brackets<'a>>(
+    alloc: Global,
+    tokens: &'a [Token],
+    brackets: &B,
+) -> Read<'a, Query>
+    requires { B.ready brackets.now }
+    ensures { Gives (λ r. (r.0, r.1.now)) result (query_at (B.readers brackets.now) tokens.now) }
+{
+    let rest = take(tokens, Kind::Select)?;
+    let (distinct, rest) = flag(rest, Kind::Distinct);
+    let (items, rest) = items(alloc, rest, brackets)?;
+    let rest = take(rest, Kind::From)?;
+    let (first, rest) = chain(alloc, rest, brackets)?;
+    let (more, rest) = chains(alloc, rest, brackets)?;
+    let (filter, rest) = filter(alloc, rest, brackets)?;
+    let (group, rest) = group(alloc, rest)?;
+    let (having, rest) = having(alloc, rest, brackets)?;
+    let from = with_first(alloc, first, more)?;
+    Ok((
+        Query {
+            distinct,
+            items,
+            from,
+            filter,
+            group,
+            having,
+        },
+        rest,
+    ))
+}

@@ -1,0 +1,101 @@
+// One level of brackets over the next: the only recursion of the readers.
+ghost use Rattle.std.specs.Prelude.{⊤};
+ghost use Rattle.lb_readq.specs.Queries.{readers};
+ghost use Rattle.lb_reade.specs.Answering.{Gives};
+ghost use Rattle.lb_reade.specs.Bracketed.{inner_of, within};
+ghost use Rattle.lb_readq.specs.Levels.{level_at};
+
+use crate::clause::query;
+use crate::opener::open;
+use lb_reade::{Brackets, Fault, Inside, Mixed, Read, Wanted, cond, expr, mixed};
+use lb_tok::{Kind, Token};
+use std::alloc::Global;
+
+// Brackets whose content a closure reads, so that `level` may lend its readers a call of itself.
+#[derive(Drop)]
+struct Through<F> {
+    // How many brackets may still open.
+    depth: u32,
+    read: F,
+}
+
+impl<'a, F: Fn(&'a [Token], Wanted) -> Read<'a, Inside>> Brackets<'a> for Through<F> {
+    ghost readers = { λ s. readers s.depth };
+
+    ghost ready = { λ s. F.IsAlwaysCallable s.read × ((tokens : _) (wanted : _) (r : _) → F.post s.read tokens wanted r
+        → Gives (λ r. (inner_of r.0, r.1.now)) r (within (readers s.depth) wanted tokens.now)) };
+
+    fn open(&self, tokens: &'a [Token], kind: Kind) -> Result<&'a [Token], Fault<'a>> {
+        open(tokens, kind, self.depth)
+    }
+
+    fn inside(&self, _alloc: Global, tokens: &'a [Token], wanted: Wanted) -> Read<'a, Inside> {
+        (self.read)(tokens, wanted)
+    }
+}
+
+// Reads what stands behind an opener, where `depth` brackets might still open before it.
+#[cycle(levels)]
+#[tactic(auto, using(crate::proofs::Levels::one_in, crate::proofs::Levels::none_in))]
+fn below<'a>(alloc: Global, tokens: &'a [Token], depth: u32, wanted: Wanted) -> Read<'a, Inside>
+    ensures { Gives (λ r. (inner_of r.0, r.1.now)) result (within (readers depth) wanted tokens.now) }
+{
+    if depth == 0 {
+        Err(Fault::Deep(tokens))
+    } else {
+        level(alloc, tokens, depth - 1, wanted)
+    }
+}
+
+// Reads what is wanted, where `depth` brackets may still open.
+#[cycle(levels)]
+fn level<'a>(alloc: Global, tokens: &'a [Token], depth: u32, wanted: Wanted) -> Read<'a, Inside>
+    ensures { Gives (λ r. (inner_of r.0, r.1.now)) result (level_at (readers depth) wanted tokens.now) }
+{
+    let read = |rest, wanted|
+        ensures { Gives (λ r. (inner_of r.0, r.1.now)) result (within (readers depth) wanted rest.now) }
+    { below(alloc, rest, depth, wanted) };
+    let brackets = Through { depth, read };
+    match wanted {
+        Wanted::Expr => {
+            let (value, rest) = expr(alloc, tokens, &brackets)?;
+            Ok((Inside::Expr(value), rest))
+        }
+        Wanted::Condition => {
+            let (value, rest) = cond(alloc, tokens, &brackets)?;
+            Ok((Inside::Condition(value), rest))
+        }
+        Wanted::Mixed => {
+            let (value, rest) = mixed(alloc, tokens, &brackets)?;
+            match value {
+                Mixed::Cond(value) => Ok((Inside::Condition(value), rest)),
+                Mixed::Expr(value) => Ok((Inside::Expr(value), rest)),
+            }
+        }
+        Wanted::Query => {
+            let (value, rest) = query(alloc, tokens, &brackets)?;
+            Ok((Inside::Query(value), rest))
+        }
+    }
+}
+
+/// Brackets of which a certain number may still open.
+#[derive(Clone, Copy)]
+pub struct Depth {
+    /// How many may still open.
+    pub left: u32,
+}
+
+impl<'a> Brackets<'a> for Depth {
+    ghost readers = { λ s. readers s.left };
+
+    ghost ready = { λ _. ⊤ };
+
+    fn open(&self, tokens: &'a [Token], kind: Kind) -> Result<&'a [Token], Fault<'a>> {
+        open(tokens, kind, self.left)
+    }
+
+    fn inside(&self, alloc: Global, tokens: &'a [Token], wanted: Wanted) -> Read<'a, Inside> {
+        below(alloc, tokens, self.left, wanted)
+    }
+}
