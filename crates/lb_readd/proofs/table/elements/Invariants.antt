@@ -1,0 +1,12 @@
+-- What was read so far, and what is still to be read, are the whole.
+use Rattle.std.proofs.Common.{◌≡◌, ◌-◌, length}
+use Rattle.lb_tok.specs.declared.kind.Kind.TheVariants as kinds
+use Rattle.lb_tok.specs.Kinds.{only}
+use Rattle.lb_reade.specs.Readers.{turns, after, commas}
+use Rattle.lb_readq.specs.Queries.{readers}
+use Rattle.lb_reade.proofs.Turned.{with_front}
+use Rattle.lb_readd.specs.Defining.{element_at}
+use Rattle.lb_readd.proofs.table.elements.Given as goal
+
+abbrev pub invariant-loop : goal.invariant-loop
+invariant-loop l = with_front l.parts (turns (length l.tokens - l.counter) (only kinds.Comma) (after kinds.Comma (element_at (readers l.depth))) l.rest) ≡ commas (element_at (readers l.depth)) l.tokens

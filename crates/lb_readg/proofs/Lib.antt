@@ -1,0 +1,4 @@
+pub mod Grants
+pub mod LabelNames
+pub mod Names
+pub mod Runs
