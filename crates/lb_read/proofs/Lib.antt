@@ -1,0 +1,5 @@
+pub mod Again
+pub mod Chosen
+pub mod First
+pub mod Texts
+pub mod Trees
