@@ -31,6 +31,3 @@ pub use text::{Name, NoMemory, Str};
 pub use truth::Truth;
 pub use value::{Names, Parts, Row, RowList, Value};
 pub use write::{Assignment, Delete, Insert, InsertSource, Stmt, Update};
-
-#[cfg(test)]
-mod tests;

@@ -1,15 +1,15 @@
 -- A statement that was run, and one that was not.
 use Rattle.std.proofs.Common.{Bool, true, false, cond, ◌≡◌, ◌⊎◌, inl, inr, ℕ, zero, ◌+◌, ◌<◌, ◌≤◌, ◌^◌, List, [], ◌∷◌, ◌++◌, length, take, Option, Some, None, refl, sym, ap, subst, ◌∙◌, zero-add, arith}
-use Rattle.std.specs.Prelude.{ℤ, slice_get, ◌==◌, ◌||◌, nat_lt, Err}
+use Rattle.std.specs.Prelude.{ℤ, slice_get, ◌==◌, nat_lt}
 use Rattle.std.proofs.Math.Seq.{take-length}
-use Rattle.std.proofs.lemmas.Bool.{ltb-false}
+use Rattle.std.proofs.lemmas.Bool.{ltb-false, ltb-true}
 use Rattle.std.proofs.lemmas.Bool.Decides.{nat_tests}
 use Rattle.std.proofs.lemmas.List.Sums.{fold-append}
 use Rattle.std.proofs.lemmas.List.{take-append-le, length-append}
 use Rattle.lb_base.specs.declared.write.Stmt.{Stmt}
-use Rattle.lb_small_tok.specs.Canonical.{canonical}
-use Rattle.lb_small_tok.specs.Spelled.{IsSpoken, Reads}
-use Rattle.lb_small_tok.proofs.Spelling.{one_statement}
+use Rattle.lb_tok.specs.Canonical.{canonical}
+use Rattle.lb_tok.specs.Syntax.{IsReadable, IsBeyond}
+use Rattle.lb_read.proofs.Again.{spoken}
 use Rattle.lb_model.specs.declared.entry.Entry.{Entry}
 use Rattle.lb_model.specs.declared.entry.Entry.TheVariants as entries
 use Rattle.lb_model.specs.declared.entry.Said.{Said}
@@ -21,34 +21,38 @@ use Rattle.lb_model.specs.declared.reply.Reply.TheVariants as replies
 use Rattle.lb_model.specs.Catalog.{Cat, Tables}
 use Rattle.lb_model.specs.Answer.{is_query}
 use Rattle.lb_model.specs.Step.{State, first, step, after}
-use Rattle.lb_model.specs.Journal.{Speaks, IsDay, FollowsSaid, Follows, opened_by, said_by, is_said_by}
+use Rattle.lb_model.specs.Journal.{IsMade, Speaks, IsDay, FollowsSaid, Follows, opened_by, said_by, is_said_by, opens}
 use Rattle.lb_model.specs.Replay.{Steps, Replay, Rep}
-use Rattle.lb_model.specs.NotYet.{is_unbuilt, goes_past}
+use Rattle.lb_model.specs.NotYet.{IsUnbuilt}
 use Rattle.lb_model.specs.Told.{Placed, IsUnplaced, Unplaced, mark_of}
-use Rattle.lb_model.proofs.One.{runs_more}
+use Rattle.lb_model.proofs.There.{runs_more}
 use Rattle.lb_model.proofs.Grows.{get_end, made_more, opened_more}
-use Rattle.lb_small_read.specs.declared.fault.ReadFault.{ReadFault}
-use Rattle.lb_small_read.specs.declared.fault.ReadFault.TheVariants as faults
-use Rattle.lb_small_read.specs.Answers.{Answers}
+use Rattle.lb_model.proofs.Sessions.{opened_last, said_none}
 use Rattle.lb_refr.specs.Stored.{Stored}
 use Rattle.lb_front.specs.declared.book.Session.{Session}
 use Rattle.lb_front.specs.declared.book.Prepared.{Prepared}
-use Rattle.lb_front.specs.declared.book.Stop.{Stop}
-use Rattle.lb_front.specs.declared.book.Stop.TheVariants as stops
+use Rattle.lb_front.specs.declared.stop.Stop.{Stop}
+use Rattle.lb_front.specs.declared.stop.Stop.TheVariants as stops
 use Rattle.lb_front.specs.Booked.{Stands, IsSeated}
 use Rattle.lb_front.specs.Executed.{Left, Added, Executed, ExecutedAt}
-use Rattle.lb_front.specs.Prepared.{stop_of, stop_reply, IsReady, IsStopped, Did}
+use Rattle.lb_front.specs.Prepared.{IsUnread, stop_reply, IsReady, IsStopped, Did}
 
 -- ---- why a statement is not run
 
-pub stopped_reading : (J : List Entry) (limit : ℕ) (stored : Stored) (user text : List ℕ) (e : ReadFault) → Answers text (Err e) → IsStopped J limit stored user text (stop_of e)
-stopped_reading J limit stored user text faults.NotSmall h = λ s r. absurd (h s r)
-stopped_reading J limit stored user text faults.NoMemory h = tt
+pub no_truth : (b : Bool) → b ≡ true → b ≡ false → ⊥
+no_truth true e h = absurd cc
+no_truth false e h = absurd cc
 
-pub stopped_unbuilt : (J : List Entry) (limit : ℕ) (stored : Stored) (user text : List ℕ) (s : Stmt) → Reads text s → is_unbuilt stored.cat stored.tables user s ≡ true → IsStopped J limit stored user text stops.NotYet
-stopped_unbuilt J limit stored user text s h e = λ t r. subst (λ (x : Stmt). is_unbuilt stored.cat stored.tables user x ≡ true) (one_statement text s t h.2 r.2) e
+pub stopped_reading : (J : List Entry) (limit : ℕ) (stored : Stored) (user text : List ℕ) (stop : Stop) → IsUnread text stop → IsStopped J limit stored user text stop
+stopped_reading J limit stored user text stops.NoMemory h = tt
+stopped_reading J limit stored user text (stops.Syntax at) h = h
+stopped_reading J limit stored user text stops.NotYet h = absurd h
+stopped_reading J limit stored user text (stops.JournalFull n) h = absurd h
 
-pub stopped_full : (J : List Entry) (limit : ℕ) (stored : Stored) (user text : List ℕ) (s : Stmt) → Stands J limit stored → Reads text s → is_unbuilt stored.cat stored.tables user s ≡ false → limit ≤ length J
+pub stopped_unbuilt : (J : List Entry) (limit : ℕ) (stored : Stored) (user text : List ℕ) (s : Stmt) → IsReadable text s → IsUnbuilt stored.cat stored.tables user s → IsStopped J limit stored user text stops.NotYet
+stopped_unbuilt J limit stored user text s h e = (s, record { reads = h; unbuilt = e })
+
+pub stopped_full : (J : List Entry) (limit : ℕ) (stored : Stored) (user text : List ℕ) (s : Stmt) → Stands J limit stored → IsReadable text s → (IsUnbuilt stored.cat stored.tables user s → ⊥) → limit ≤ length J
     → IsStopped J limit stored user text (stops.JournalFull limit)
 stopped_full J limit stored user text s stands h e le = (refl, (s, record { reads = h; built = e }), omega (arith, stands.within))
 
@@ -66,8 +70,9 @@ unplaced_by J limit stored user text stop a stands h place mark reply = record {
   where
     cause_by : (J : List Entry) (limit : ℕ) (stored : Stored) (user text : List ℕ) (stop : Stop) (stands : Stands J limit stored) → IsStopped J limit stored user text stop → IsUnplaced J limit (length J) stands.state user text (stop_reply stop)
     cause_by J limit stored user text stops.NoMemory stands h = inl refl
-    cause_by J limit stored user text stops.NotYet stands h = inr (inl (refl, rw (stands.cat, stands.tables) h))
-    cause_by J limit stored user text (stops.JournalFull n) stands h = inr (inr (rw h.0 refl, (h.1.0, rw (stands.cat, stands.tables) h.1.1), h.2, h.2))
+    cause_by J limit stored user text (stops.Syntax at) stands h = inr (inl (at, refl, h))
+    cause_by J limit stored user text stops.NotYet stands h = inr (inr (inl (refl, (h.0, rw (stands.cat, stands.tables) h.1))))
+    cause_by J limit stored user text (stops.JournalFull n) stands h = inr (inr (inr (rw h.0 refl, (h.1.0, rw (stands.cat, stands.tables) h.1.1), h.2, h.2)))
 
 -- ---- a statement that is run
 
@@ -88,15 +93,13 @@ said_more J d s h =
     let one : one_if (d.session == s) ≡ 1 = rw h (chosen_one (s == s) (itself s)) in
     fold-append (λ a x. a + cond (is_said_by s x) 1 0) 0 J (entries.Said d ∷ []) ∙ ap (λ (n : ℕ). said_by J s + n) one
 
-spoken : (text : List ℕ) (s : Stmt) → Reads text s → IsSpoken s
-spoken text s h = (h.2.0, h.2.2)
+not_above : (b : Bool) (m n : ℕ) → nat_lt m n ≡ b → (m < n → ⊥) → n ≤ m
+not_above true m n e h = absurd (h (ltb-true m n e))
+not_above false m n e h = ltb-false m n e
 
-unbuilt_parts : (a b : Bool) → (a || b) ≡ false → (a ≡ false) × (b ≡ false)
-unbuilt_parts false b h = (refl, h)
-unbuilt_parts true b h = absurd cc
-
-short_text : (C : Cat) (T : Tables) (user : List ℕ) (s : Stmt) → is_unbuilt C T user s ≡ false → length (canonical s) ≤ 4096
-short_text C T user s h = ltb-false 4096 (length (canonical s)) (unbuilt_parts (nat_lt 4096 (length (canonical s))) (goes_past C T user s) h).0
+-- a canonical text that goes beyond no limit is short enough for an entry
+short_text : (s : Stmt) → (IsBeyond s → ⊥) → length (canonical s) ≤ 4096
+short_text s h = not_above (nat_lt 4096 (length (canonical s))) 4096 (length (canonical s)) refl (λ long. h (inl long))
 
 -- what a statement that was run leaves
 pub record Committed (J : List Entry) (limit : ℕ) (new : Stored) (session : Session) (text : List ℕ) (p : Prepared) (r : Reply) : Type 0 where
@@ -117,8 +120,8 @@ committed J limit stored new session text p r stands seated ready today did =
     let groups : d.groups ≡ session.groups = ap (λ (x : Said). x.groups) e in
     let said : d.text ≡ canonical p.stmt = ap (λ (x : Said). x.text) e in
     let S : State = stands.state in
-    let speaks : Speaks d.text p.stmt = (spoken text p.stmt ready.built.reads, sym said) in
-    let short : length d.text ≤ 4096 = rw said (short_text stored.cat stored.tables session.user p.stmt ready.built.built) in
+    let speaks : Speaks d.text p.stmt = (spoken text p.stmt ready.built.reads.reads, sym said) in
+    let short : length d.text ≤ 4096 = rw said (short_text p.stmt ready.built.reads.again) in
     let opened : opened_by J d.session ≡ Some (d.user, d.groups) = rw (own, user, groups) seated.opened in
     let counted : d.number ≡ said_by J d.session = rw (own, number) seated.counted in
     let follows : FollowsSaid J d = record { stmt = p.stmt; speaks = speaks; short = short; day = today; opened = opened; counted = counted } in
@@ -195,16 +198,38 @@ pub answer_is : (J : List Entry) (place : ℕ) (s : Stmt) (mark : Mark) (r : Rep
     → ◌≡◌ {A = Answer} (record { place = Some place; mark = mark; reply = r }) (record { place = Some (length J); mark = mark_of s; reply = r })
 answer_is J place s mark r h e = rw (h, e) refl
 
--- the book of a session that has just been opened
-pub stands_first : (J base : List Entry) (user : List ℕ) (groups : List (List ℕ)) (limit : ℕ) (store : Stored) → base ≡ [] → J ≡ base ++ entries.Open user groups ∷ [] → 0 < limit → limit < 2 ^ 32
-    → store ≡ record { cat = record { tables = [] }; tables = [] } → Stands J limit store
-stands_first J base user groups limit store empty e lt bounded bare =
-    rw (e, empty) (record {
-      made = (tt, tt);
+-- ---- sessions
+
+-- an empty journal stands
+pub stands_first : (J : List Entry) (limit : ℕ) (store : Stored) → J ≡ [] → limit < 2 ^ 32 → store ≡ record { cat = record { tables = [] }; tables = [] } → Stands J limit store
+stands_first J limit store e bounded bare =
+    rw e (record {
+      made = tt;
       within = omega arith;
       bounded = bounded;
       state = first;
-      replay = (first, refl, refl);
+      replay = refl;
       cat = rw bare refl;
       tables = rw bare refl;
+    })
+
+-- an Open more leaves what stands
+pub stands_opened : (J K : List Entry) (limit : ℕ) (stored : Stored) (user : List ℕ) (groups : List (List ℕ)) → Stands J limit stored → length J < limit → K ≡ J ++ entries.Open user groups ∷ [] → Stands K limit stored
+stands_opened J K limit stored user groups h lt e =
+    rw e (record {
+      made = made_more J (entries.Open user groups) h.made tt;
+      within = omega (arith, lt, length-append J (entries.Open user groups ∷ []));
+      bounded = h.bounded;
+      state = h.state;
+      replay = runs_more 0 first J h.state (entries.Open user groups) h.state h.replay refl;
+      cat = h.cat;
+      tables = h.tables;
+    })
+
+-- the session that was opened now
+pub seated_opened : (J K : List Entry) (user : List ℕ) (groups : List (List ℕ)) (s : Session) → IsMade J → K ≡ J ++ entries.Open user groups ∷ [] → s.number ≡ opens J → s.said ≡ 0 → s.user ≡ user → s.groups ≡ groups → IsSeated K s
+seated_opened J K user groups s made e n none u g =
+    rw (e) (record {
+      opened = rw (n, u, g) (opened_last J user groups);
+      counted = rw (n, none) (sym (said_none J user groups made));
     })

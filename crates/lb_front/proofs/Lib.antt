@@ -1,4 +1,7 @@
-pub mod Scanned
+pub mod Begun
 pub mod Committed
-pub mod Turned
+pub mod Readings
+pub mod Sections
+pub mod Sessions
+pub mod Shut
 pub mod Words

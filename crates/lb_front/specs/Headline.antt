@@ -1,38 +1,18 @@
 -- What a whole run means.
-use Rattle.std.specs.Prelude.{ℕ, ℤ, ◌≡◌, ◌⊎◌, ◌≤◌, ◌<◌, List, [], ◌∷◌, ◌++◌, true, false, codes, flat_map, Option, Some, None, take, length, slice_get}
+use Rattle.std.specs.Prelude.{ℕ, ℤ, ◌≡◌, ◌⊎◌, ◌≤◌, ◌<◌, List, [], length, flat_map, Option, Some, None, Result, Ok, Err}
 use Rattle.std.specs.Io.KnownBytes.{Appends}
 use Rattle.lb_wire.specs.Told.{Took, TookAll, AppendsPart, Grows}
 use Rattle.lb_wire.specs.declared.status.Status.{Status}
 use Rattle.lb_wire.specs.declared.status.Status.TheVariants as statuses
-use Rattle.lb_model.specs.declared.entry.Entry.{Entry}
-use Rattle.lb_model.specs.declared.entry.Entry.TheVariants as entries
-use Rattle.lb_model.specs.declared.reply.Answer.{Answer}
-use Rattle.lb_model.specs.Journal.{IsMade, mine}
-use Rattle.lb_model.specs.Told.{Told, places, count_from}
-use Rattle.lb_model.specs.Out.{header_text, block_text}
-use Rattle.lb_front.specs.Form.{is_form, body, statements}
-
--- the one user so far
-abbrev pub user : List ℕ
-user = codes "SECADMIN"
+use Rattle.lb_split.specs.declared.script.Script.{Script}
+use Rattle.lb_split.specs.Scripts.{script_of}
+use Rattle.lb_model.specs.Out.{bad_script_text}
+use Rattle.lb_model.specs.Sections.{Section, Outcome, Journaled, out, IsFront}
+use Rattle.lb_front.specs.Scripted.{sections_in}
 
 -- the most bytes of an input
 abbrev pub most_bytes : ℕ
 most_bytes = 16777216
-
--- the text of a run: the line of its one section, whose session 0 was opened at place 0, and the block of each answer
-abbrev pub out : List Answer → List ℕ
-out answers = header_text 0 0 user ++ flat_map block_text answers
-
--- The answers to these texts, given on these days, are told of one journal: it is well made, begins with the Open of the
--- user without groups, has at most so many entries, and its places are those that the lines show, from 0 on.
-pub record Journaled (limit : ℕ) (texts : List (List ℕ)) (days : List ℤ) (answers : List Answer) : Type 0 where
-  pub journal : List Entry
-  pub made : IsMade journal
-  pub opened : slice_get journal 0 ≡ Some (entries.Open user [])
-  pub within : length journal ≤ limit
-  pub told : Told journal limit user 1 (mine journal 0) texts days answers
-  pub counted : 0 ∷ places answers ≡ count_from 0 (length journal)
 
 -- what a call found of the clock and of the sink, and what it left
 pub record Outside : Type 0 where
@@ -46,49 +26,66 @@ pub record IsSilent (o : Outside) : Type 0 where
   pub days : Grows o.given o.given_now []
   pub bytes : Appends o.written o.written_now []
 
--- the whole run: every statement was answered, with a day each, and the text of the run was written
-pub record Ran (limit : ℕ) (texts : List (List ℕ)) (o : Outside) : Type 0 where
-  pub days : List ℤ
-  pub answers : List Answer
-  pub journaled : Journaled limit texts days answers
-  pub clock : Grows o.given o.given_now days
-  pub bytes : Appends o.written o.written_now (out answers)
+-- the days that the sections took, in order
+abbrev pub days_of : List Outcome → List ℤ
+days_of outcomes = flat_map (λ o. o.days) outcomes
 
--- a run that was cut short: the first statements were answered, with a day each, and the first bytes of their text were written
-pub record RanPart (limit : ℕ) (texts : List (List ℕ)) (o : Outside) : Type 0 where
-  pub count : ℕ
-  pub days : List ℤ
-  pub answers : List Answer
-  pub journaled : Journaled limit (take count texts) days answers
-  pub clock : Grows o.given o.given_now days
-  pub bytes : AppendsPart o.written o.written_now (out answers)
+-- the whole run: every statement of every section was answered, and the text of the run was written
+pub record Ran (limit : ℕ) (sections : List Section) (o : Outside) : Type 0 where
+  pub outcomes : List Outcome
+  pub journaled : Journaled limit sections outcomes
+  pub clock : Grows o.given o.given_now (days_of outcomes)
+  pub bytes : Appends o.written o.written_now (out limit sections outcomes)
+
+-- A run that was cut short: the first sections were run, of the last of them the first statements, and the first bytes of their text were written.
+pub record RanPart (limit : ℕ) (sections : List Section) (o : Outside) : Type 0 where
+  pub front : List Section
+  pub is_front : IsFront front sections
+  pub outcomes : List Outcome
+  pub journaled : Journaled limit front outcomes
+  pub clock : Grows o.given o.given_now (days_of outcomes)
+  pub bytes : AppendsPart o.written o.written_now (out limit front outcomes)
 
 -- the whole input was read, and is within its limit
 pub record WasRead (left left_now : Option (List ℕ)) (input : List ℕ) : Type 0 where
   pub all : TookAll left left_now input
   pub within : length input ≤ most_bytes
 
--- the input was read and has the one form
-pub record HasForm (left left_now : Option (List ℕ)) (input : List ℕ) : Type 0 where
+-- the whole input was read, and is a script of these sections
+pub record WasScript (left left_now : Option (List ℕ)) (sections : List Section) : Type 0 where
+  pub input : List ℕ
   pub read : WasRead left left_now input
-  pub form : is_form input ≡ true
+  pub script : Script
+  pub form : script_of input ≡ Ok script
+  pub same : sections_in input script ≡ sections
+
+-- the whole input was read, and breaks the form of a script at that line
+pub record WasBroken (left left_now : Option (List ℕ)) (n : ℕ) : Type 0 where
+  pub input : List ℕ
+  pub read : WasRead left left_now input
+  pub form : script_of input ≡ Err n
+
+-- no day was asked for, and the first bytes of that text were written
+pub record IsWrittenPart (text : List ℕ) (o : Outside) : Type 0 where
+  pub days : Grows o.given o.given_now []
+  pub bytes : AppendsPart o.written o.written_now text
 
 -- What each status says: of the source's bytes before and after, and of clock and sink.
 abbrev pub Ends : Status → ℕ → Option (List ℕ) → Option (List ℕ) → Outside → Type 0
-Ends statuses.Done limit left left_now o = (input : List ℕ) × HasForm left left_now input × Ran limit (statements (body input)) o
-Ends statuses.WriteFault limit left left_now o = (input : List ℕ) × HasForm left left_now input × RanPart limit (statements (body input)) o
-Ends statuses.NoMemory limit left left_now o = IsSilent o ⊎ ((input : List ℕ) × HasForm left left_now input × RanPart limit (statements (body input)) o)
-Ends statuses.NotYet limit left left_now o = (input : List ℕ) × WasRead left left_now input × (is_form input ≡ false) × IsSilent o
+Ends statuses.Done limit left left_now o = (sections : List Section) × WasScript left left_now sections × Ran limit sections o
+Ends statuses.WriteFault limit left left_now o = (sections : List Section) × WasScript left left_now sections × RanPart limit sections o
+Ends statuses.NoMemory limit left left_now o = IsSilent o ⊎ ((sections : List Section) × WasScript left left_now sections × RanPart limit sections o)
+Ends (statuses.BadScript n) limit left left_now o = WasBroken left left_now n × IsWrittenPart (bad_script_text n) o
 Ends statuses.TooLong limit left left_now o = (taken : List ℕ) × Took left left_now taken × (most_bytes < length taken) × IsSilent o
 Ends statuses.ReadFault limit left left_now o = IsSilent o
 Ends statuses.BadWords limit left left_now o = IsSilent o
 Ends _ limit left left_now o = ⊥
 
--- nothing is amiss in what was handed in: the source tells the bytes that it has left, they are within the limit, and they have the one form
+-- nothing is amiss in what was handed in: the source tells the bytes that it has left, and they are within the limit
 abbrev pub IsRunnable : Option (List ℕ) → Type 0
 IsRunnable None = ⊥
-IsRunnable (Some input) = (length input ≤ most_bytes) × (is_form input ≡ true)
+IsRunnable (Some input) = length input ≤ most_bytes
 
--- the run was whole, or memory was refused
+-- the run was whole, or memory was refused; or the input breaks the form of a script
 abbrev pub IsAnswered : Status → Type 0
-IsAnswered status = (status ≡ statuses.Done) ⊎ (status ≡ statuses.NoMemory)
+IsAnswered status = (status ≡ statuses.Done) ⊎ (status ≡ statuses.NoMemory) ⊎ ((n : ℕ) × (status ≡ statuses.BadScript n))

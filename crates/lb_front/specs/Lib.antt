@@ -1,5 +1,4 @@
-pub mod Form
-pub mod Pieces
+pub mod Scripted
 pub mod Booked
 pub mod Executed
 pub mod Prepared

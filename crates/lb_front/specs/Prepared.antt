@@ -1,21 +1,39 @@
 -- A statement that is to be run, and why one is not.
-use Rattle.std.specs.Prelude.{ℕ, ℤ, ◌≡◌, ◌<◌, ◌⊎◌, true, List, length}
+use Rattle.std.specs.Prelude.{ℕ, ℤ, ◌≡◌, ◌<◌, ◌⊎◌, true, List, length, Result, Ok, Err}
 use Rattle.lb_base.specs.declared.write.Stmt.{Stmt}
-use Rattle.lb_small_tok.specs.Canonical.{canonical}
+use Rattle.lb_tok.specs.Canonical.{canonical}
+use Rattle.lb_tok.specs.Syntax.{most_bytes, IsBeyond, IsReadable, IsSyntaxAt}
 use Rattle.lb_model.specs.declared.entry.Entry.{Entry}
 use Rattle.lb_model.specs.declared.reply.Reply.{Reply}
 use Rattle.lb_model.specs.declared.reply.Reply.TheVariants as replies
-use Rattle.lb_model.specs.declared.reply.Refusal.TheVariants as refusals
+use Rattle.lb_model.specs.declared.refusal.Refusal.TheVariants as refusals
 use Rattle.lb_model.specs.Answer.{is_query}
 use Rattle.lb_model.specs.Step.{outcome}
 use Rattle.lb_model.specs.NotYet.{IsNotYet, IsBuilt, rows_given}
-use Rattle.lb_small_read.specs.declared.fault.ReadFault.{ReadFault}
-use Rattle.lb_small_read.specs.declared.fault.ReadFault.TheVariants as faults
 use Rattle.lb_refr.specs.Stored.{Stored}
+use Rattle.lb_front.specs.declared.readable.Readable.{Readable}
+use Rattle.lb_front.specs.declared.stop.Stop.{Stop}
+use Rattle.lb_front.specs.declared.stop.Stop.TheVariants as stops
 use Rattle.lb_front.specs.declared.book.Session.{Session}
 use Rattle.lb_front.specs.declared.book.Prepared.{Prepared}
-use Rattle.lb_front.specs.declared.book.Stop.{Stop}
-use Rattle.lb_front.specs.declared.book.Stop.TheVariants as stops
+
+-- the statement of the text, which can be read again, and its canonical text
+pub record WasReadable (text : List ℕ) (r : Readable) : Type 0 where
+  pub reads : IsReadable text r.stmt
+  pub canonical_text : r.text ≡ canonical r.stmt
+
+-- why the text is not read
+abbrev pub IsUnread : List ℕ → Stop → Type 0
+IsUnread text stops.NoMemory = Unit {0}
+IsUnread text (stops.Syntax at) = IsSyntaxAt text at
+IsUnread text _ = ⊥
+
+-- the canonical text of the statement is read again, or it goes beyond a limit, or memory was refused
+abbrev pub Again : Stmt → Result Unit Stop → Type 0
+Again s (Ok done) = IsBeyond s → ⊥
+Again s (Err stops.NoMemory) = Unit {0}
+Again s (Err (stops.Syntax at)) = IsBeyond s × (at ≡ most_bytes)
+Again s (Err stop) = ⊥
 
 -- the statement of the text is built, its rows are there, its entry is that of the session's next statement, and there is room for it
 pub record IsReady (J : List Entry) (limit : ℕ) (stored : Stored) (session : Session) (text : List ℕ) (day : ℤ) (p : Prepared) : Type 0 where
@@ -27,15 +45,13 @@ pub record IsReady (J : List Entry) (limit : ℕ) (stored : Stored) (session : S
 -- why the statement of the text is not run
 abbrev pub IsStopped : List Entry → ℕ → Stored → List ℕ → List ℕ → Stop → Type 0
 IsStopped J limit stored user text stops.NoMemory = Unit {0}
-IsStopped J limit stored user text stops.NotYet = IsNotYet stored.cat stored.tables user text
+IsStopped J limit stored user text (stops.Syntax at) = IsSyntaxAt text at
+IsStopped J limit stored user text stops.NotYet = (s : Stmt) × IsNotYet stored.cat stored.tables user text s
 IsStopped J limit stored user text (stops.JournalFull n) = (n ≡ limit) × ((s : Stmt) × IsBuilt stored.cat stored.tables user text s) × (length J ≡ limit)
-
-abbrev pub stop_of : ReadFault → Stop
-stop_of faults.NotSmall = stops.NotYet
-stop_of faults.NoMemory = stops.NoMemory
 
 abbrev pub stop_reply : Stop → Reply
 stop_reply stops.NoMemory = replies.NoMemory
+stop_reply (stops.Syntax at) = replies.Refused (refusals.Syntax at)
 stop_reply stops.NotYet = replies.Refused refusals.NotYet
 stop_reply (stops.JournalFull n) = replies.Refused (refusals.JournalFull n)
 

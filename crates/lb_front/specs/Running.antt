@@ -1,75 +1,149 @@
--- A run between two statements.
-use Rattle.std.specs.Prelude.{ℕ, ℤ, ◌≡◌, ◌+◌, ◌≤◌, List, [], ◌∷◌, ◌++◌, length, Some, slice_get}
+-- A run between two statements, and between two sections.
+use Rattle.std.specs.Prelude.{ℕ, ℤ, ◌≡◌, ◌⊎◌, ◌+◌, ◌<◌, ◌≤◌, List, [], ◌∷◌, ◌++◌, take, length, flat_map, Option, None, Some}
 use Rattle.std.specs.Io.KnownBytes.{Appends}
-use Rattle.lb_wire.specs.Told.{Grows}
+use Rattle.lb_wire.specs.Told.{AppendsPart, Grows}
 use Rattle.lb_wire.specs.declared.status.Status.{Status}
 use Rattle.lb_wire.specs.declared.status.Status.TheVariants as statuses
 use Rattle.lb_model.specs.declared.entry.Entry.{Entry}
-use Rattle.lb_model.specs.declared.entry.Entry.TheVariants as entries
-use Rattle.lb_model.specs.declared.entry.Said.{Said}
 use Rattle.lb_model.specs.declared.reply.Answer.{Answer}
-use Rattle.lb_model.specs.Journal.{mine}
-use Rattle.lb_model.specs.Told.{Told, places, count_from}
-use Rattle.lb_front.specs.declared.book.Session.{Session}
-use Rattle.lb_front.specs.declared.book.Book.{Book}
-use Rattle.lb_front.specs.declared.run.Cut.{Cut}
-use Rattle.lb_front.specs.declared.run.Cut.TheVariants as cuts
+use Rattle.lb_model.specs.declared.reply.Mark.TheVariants as marks
+use Rattle.lb_model.specs.Journal.{IsMade, opens}
+use Rattle.lb_model.specs.Told.{count_from}
+use Rattle.lb_model.specs.Telling.{Telling, RanSection, first_of}
+use Rattle.lb_model.specs.Sections.{Section, opened, Outcome, IsShut, AreShut, AreTold, places_in, section_text, out}
+use Rattle.lb_model.specs.Out.{block_text, full_text, bad_script_text}
 use Rattle.lb_refr.specs.Stored.{Stored}
-use Rattle.lb_front.specs.Booked.{Stands, IsSeated}
-use Rattle.lb_front.specs.Headline.{user, out, Outside, Ran, RanPart}
-
--- the number of entries that stand before the next statement, once these entries have been told of
-abbrev pub end_of : ℕ → List (ℕ × Said) → ℕ
-end_of at [] = at
-end_of at (e ∷ next) = end_of (e.0 + 1) next
-
--- these texts were answered, and all entries but the Open are of this session
-pub record Telling (J : List Entry) (limit : ℕ) (session : Session) (texts : List (List ℕ)) (days : List ℤ) (answers : List Answer) : Type 0 where
-  pub told : Told J limit user 1 (mine J 0) texts days answers
-  pub opened : slice_get J 0 ≡ Some (entries.Open user [])
-  pub counted : 0 ∷ places answers ≡ count_from 0 (length J)
-  pub behind : end_of 1 (mine J 0) ≡ length J
-  pub of_user : session.user ≡ user
-  pub of_number : session.number ≡ 0
-
--- of all statements those that are left still have to run; the others were answered, and their text was written
-pub record Progress (J : List Entry) (limit : ℕ) (session : Session) (all left : List (List ℕ)) (o : Outside) : Type 0 where
-  pub texts : List (List ℕ)
-  pub splits : texts ++ left ≡ all
-  pub days : List ℤ
-  pub answers : List Answer
-  pub telling : Telling J limit session texts days answers
-  pub clock : Grows o.given o.given_now days
-  pub bytes : Appends o.written o.written_now (out answers)
-
--- the journal with the Open alone
-abbrev pub opening : List Entry
-opening = entries.Open user [] ∷ []
-
--- the book has the Open alone, and the session is the one that it opened
-pub record IsOpened (book : Book) (session : Session) : Type 0 where
-  pub journal : book.journal.items ≡ opening
-  pub stands : Stands book.journal.items book.limit book.store
-  pub seated : IsSeated book.journal.items session
-  pub of_user : session.user ≡ user
-  pub of_number : session.number ≡ 0
+use Rattle.lb_front.specs.declared.book.Session.{Session}
+use Rattle.lb_front.specs.declared.output.Cut.{Cut}
+use Rattle.lb_front.specs.declared.output.Cut.TheVariants as cuts
+use Rattle.lb_front.specs.Booked.{Stands, IsSeated, IsOpened}
+use Rattle.lb_front.specs.Headline.{Outside, Ran, RanPart, days_of}
 
 -- the status of a run that was cut short
 abbrev pub cut_status : Cut → Status
 cut_status cuts.NoMemory = statuses.NoMemory
 cut_status cuts.WriteFault = statuses.WriteFault
 
--- how a run of these statements may end
-abbrev pub BodyEnds : Status → ℕ → List (List ℕ) → Outside → Type 0
-BodyEnds statuses.Done limit texts o = Ran limit texts o
-BodyEnds statuses.WriteFault limit texts o = RanPart limit texts o
-BodyEnds statuses.NoMemory limit texts o = RanPart limit texts o
-BodyEnds _ limit texts o = ⊥
+-- ---- a section
 
--- What holds before each statement: how far the run is, that the book stands, and that the sink's faults did not fall.
-pub record Loops (J : List Entry) (limit : ℕ) (stored : Stored) (session : Session) (all left : List (List ℕ)) (o : Outside) (first_limit faults faults_now : ℕ) : Type 0 where
-  pub progress : Progress J limit session all left o
+-- the section was run, with a day for each statement, and its text was written
+pub record SectionRan (J K : List Entry) (limit : ℕ) (s : Section) (o : Outside) : Type 0 where
+  pub outcome : Outcome
+  pub ran : RanSection J K limit s outcome
+  pub clock : Grows o.given o.given_now outcome.days
+  pub bytes : Appends o.written o.written_now (section_text limit s outcome)
+
+-- the first statements of the section were run, and the first bytes of their text were written
+pub record SectionPart (J K : List Entry) (limit : ℕ) (s : Section) (o : Outside) : Type 0 where
+  pub count : ℕ
+  pub outcome : Outcome
+  pub ran : RanSection J K limit (first_of count s) outcome
+  pub clock : Grows o.given o.given_now outcome.days
+  pub bytes : AppendsPart o.written o.written_now (section_text limit (first_of count s) outcome)
+
+-- the section was not begun
+pub record NotBegun (J K : List Entry) (o : Outside) : Type 0 where
+  pub same : K ≡ J
+  pub clock : Grows o.given o.given_now []
+  pub bytes : Appends o.written o.written_now []
+
+abbrev pub SectionCut : List Entry → List Entry → ℕ → Section → Outside → Type 0
+SectionCut J K limit s o = SectionPart J K limit s o ⊎ NotBegun J K o
+
+-- the answer to a statement of a section without a session
+abbrev pub IsShutAnswer : ℕ → List ℕ → Answer → Type 0
+IsShutAnswer limit text a = (a.place ≡ None) × (a.mark ≡ marks.Dash) × IsShut limit text a.reply
+
+-- the text of a section without a session
+abbrev pub shut_text : ℕ → List Answer → List ℕ
+shut_text limit answers = full_text limit ++ flat_map block_text answers
+
+pub record ShutRan (limit : ℕ) (texts : List (List ℕ)) (written written_now : Option (List ℕ)) : Type 0 where
+  pub answers : List Answer
+  pub shut : AreShut limit texts answers
+  pub bytes : Appends written written_now (shut_text limit answers)
+
+pub record ShutPart (limit : ℕ) (texts : List (List ℕ)) (written written_now : Option (List ℕ)) : Type 0 where
+  pub count : ℕ
+  pub answers : List Answer
+  pub shut : AreShut limit (take count texts) answers
+  pub bytes : AppendsPart written written_now (shut_text limit answers)
+
+-- what holds before each statement of a section without a session
+pub record ShutLoops (limit : ℕ) (texts : List (List ℕ)) (written written_now : Option (List ℕ)) (faults faults_now : ℕ) : Type 0 where
+  pub ran : ShutRan limit texts written written_now
+  pub later : faults ≤ faults_now
+
+-- ---- between two statements of a session
+
+abbrev pub session_section : Session → List (List ℕ) → Section
+session_section s texts = record { user = s.user; groups = s.groups; texts = texts }
+
+-- The session that was opened behind the entries of I has answered these texts, and the text of that was written.
+pub record SessionProgress (I J : List Entry) (limit : ℕ) (s : Session) (texts : List (List ℕ)) (o : Outside) : Type 0 where
+  pub days : List ℤ
+  pub answers : List Answer
+  pub telling : Telling I J limit s.number s.user s.groups texts days answers
+  pub clock : Grows o.given o.given_now days
+  pub bytes : Appends o.written o.written_now (section_text limit (session_section s texts) (record { opening = opened s.place s.number; days = days; answers = answers }))
+
+-- now it is the same session, but for the count of its statements
+pub record IsSame (s now : Session) : Type 0 where
+  pub place : now.place ≡ s.place
+  pub number : now.number ≡ s.number
+  pub user : now.user ≡ s.user
+  pub groups : now.groups ≡ s.groups
+
+-- What holds before each statement of a session: how far it is, wherever it was opened, and that the book stands.
+pub record SessionLoops (J0 J : List Entry) (limit : ℕ) (stored : Stored) (s now : Session) (texts : List (List ℕ)) (o : Outside) (first_limit sessions sessions_now faults faults_now : ℕ) : Type 0 where
+  pub progress : (I : List Entry) → IsOpened I J0 s.user s.groups s → IsMade I → SessionProgress I J limit s texts o
   pub stands : Stands J limit stored
-  pub seated : IsSeated J session
+  pub seated : IsSeated J now
+  pub same : IsSame s now
+  pub same_opens : opens J ≡ opens J0
+  pub same_limit : limit ≡ first_limit
+  pub same_sessions : sessions_now ≡ sessions
+  pub later : faults ≤ faults_now
+
+-- ---- between two sections
+
+-- these sections were run, and their text was written
+pub record Progress (J : List Entry) (limit : ℕ) (done : List Section) (o : Outside) : Type 0 where
+  pub outcomes : List Outcome
+  pub told : AreTold J limit 0 done outcomes
+  pub counted : flat_map places_in outcomes ≡ count_from 0 (length J)
+  pub clock : Grows o.given o.given_now (days_of outcomes)
+  pub bytes : Appends o.written o.written_now (out limit done outcomes)
+
+-- wherever a run stands at these entries, these sections are run behind those before
+abbrev pub RanBehind : List Entry → List Entry → ℕ → List Section → Outside → Type 0
+RanBehind J K limit sections o =
+    (done : List Section) (given : Option (List ℤ)) (written : Option (List ℕ)) → Progress J limit done (record { given = given; given_now = o.given; written = written; written_now = o.written })
+    → Progress K limit (done ++ sections) (record { given = given; given_now = o.given_now; written = written; written_now = o.written_now })
+
+-- wherever a run stands at these entries, it is cut short in these sections, also with others behind them
+abbrev pub CutBehind : List Entry → ℕ → List Section → Outside → Type 0
+CutBehind J limit sections o =
+    (done behind : List Section) (given : Option (List ℤ)) (written : Option (List ℕ)) → Progress J limit done (record { given = given; given_now = o.given; written = written; written_now = o.written })
+    → RanPart limit (done ++ (sections ++ behind)) (record { given = given; given_now = o.given_now; written = written; written_now = o.written_now })
+
+-- What holds before each section: how far the run is, and that the book stands.
+pub record SectionsLoop (J0 J : List Entry) (limit : ℕ) (stored : Stored) (sessions : ℕ) (ran : List Section) (o : Outside) (first_limit faults faults_now : ℕ) : Type 0 where
+  pub ran_behind : RanBehind J0 J limit ran o
+  pub stands : Stands J limit stored
+  pub counted : sessions ≡ opens J
   pub same_limit : limit ≡ first_limit
   pub later : faults ≤ faults_now
+
+-- how a run of these sections may end
+abbrev pub ScriptEnds : Status → ℕ → List Section → Outside → Type 0
+ScriptEnds statuses.Done limit sections o = Ran limit sections o
+ScriptEnds statuses.WriteFault limit sections o = RanPart limit sections o
+ScriptEnds statuses.NoMemory limit sections o = RanPart limit sections o
+ScriptEnds _ limit sections o = ⊥
+
+-- how a run of a script may end whose form is broken at that line
+abbrev pub BrokenEnds : Status → ℕ → Option (List ℕ) → Option (List ℕ) → Type 0
+BrokenEnds (statuses.BadScript m) n written written_now = (m ≡ n) × AppendsPart written written_now (bad_script_text n)
+BrokenEnds statuses.NoMemory n written written_now = Appends written written_now []
+BrokenEnds _ n written written_now = ⊥

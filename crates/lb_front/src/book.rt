@@ -1,27 +1,28 @@
-// The journal of a run, and the one call by which a session's statement is run.
-ghost use Rattle.std.specs.Prelude.{◌≡◌, ◌<◌, ◌≤◌, ◌^◌, [], ◌∷◌, length, nat_lt, IfOk, IfErr, OnOk, OnErr, Some, None};
-ghost use Rattle.lb_small_tok.specs.Canonical.{canonical as canonical_text};
+// The journal of a run, its sessions, and the one call by which a session's statement is run.
+ghost use Rattle.std.specs.Prelude.{◌≡◌, ◌<◌, ◌≤◌, ◌^◌, [], ◌∷◌, ◌++◌, length, IfOk, IfErr, OnOk, OnErr, Some, None};
+ghost use Rattle.lb_tok.specs.Canonical.{canonical as canonical_text};
 ghost use Rattle.lb_wire.specs.Days.{IsDay};
 ghost use Rattle.lb_model.specs.declared.entry.Entry.TheVariants as entries;
-ghost use Rattle.lb_model.specs.declared.reply.Mark.TheVariants as marks;
 ghost use Rattle.lb_model.specs.Answer.{is_query as reads_only};
-ghost use Rattle.lb_model.specs.NotYet.{is_unbuilt as unbuilt, rows_given};
+ghost use Rattle.lb_model.specs.Journal.{opens};
+ghost use Rattle.lb_model.specs.NotYet.{rows_given};
 ghost use Rattle.lb_model.specs.Told.{mark_of as marked};
-ghost use Rattle.lb_front.specs.Booked.{Stands, IsSeated};
+ghost use Rattle.lb_front.specs.Booked.{Stands, IsSeated, IsOpened, IsShut};
 ghost use Rattle.lb_front.specs.Executed.{Executed, Added};
-ghost use Rattle.lb_front.specs.declared.book.Stop.TheVariants as stops;
-ghost use Rattle.lb_front.specs.Prepared.{stop_of, IsReady, IsStopped, Did, stop_reply};
+ghost use Rattle.lb_front.specs.Prepared.{IsReady, IsStopped, Did};
 
+use crate::readable::{Readable, statement_of};
+use crate::stop::{Stop, unplaced};
 use lb_base::{Name, Names, NoMemory, RowList, Stmt, Str};
-use lb_model::{Answer, Entry, Mark, Refusal, Reply, Said};
-use lb_print::canonical;
+use lb_model::{Answer, Entry, Mark, Reply, Said};
 use lb_refr::{Store, given_rows};
-use lb_small_read::{ReadFault, read};
 use std::alloc::{AllocError, Global};
 
 /// A session that was opened.
 #[derive(Drop)]
 pub struct Session {
+    /// The place of its Open in the journal, counted from 0.
+    pub place: u64,
     /// The count of the sessions opened before it.
     pub number: u32,
     /// The count of its statements in the journal.
@@ -36,34 +37,9 @@ pub struct Book {
     pub journal: Vec<Entry>,
     /// The number of entries that the journal may have.
     pub limit: u64,
+    /// The number of sessions opened.
+    pub sessions: u32,
     pub store: Store,
-}
-
-/// Why a statement has no place.
-#[derive(Clone, Copy, Debug, PartialEq, Eq)]
-pub enum Stop {
-    NoMemory,
-    NotYet,
-    /// The journal has as many entries as it may have.
-    JournalFull(u64),
-}
-
-impl From<AllocError> for Stop {
-    ghost from_gives = { λ _ stop. stop ≡ stops.NoMemory };
-
-    fn from(_error: AllocError) -> Stop {
-        Stop::NoMemory
-    }
-}
-
-/// What a fault of reading means for the statement.
-fn stop_for(fault: ReadFault) -> Stop
-    ensures { result ≡ stop_of fault }
-{
-    match fault {
-        ReadFault::NotSmall => Stop::NotYet,
-        ReadFault::NoMemory => Stop::NoMemory,
-    }
 }
 
 /// A statement that is to be run: the rows that it gives, and its entry.
@@ -75,30 +51,54 @@ pub struct Prepared {
 }
 
 impl Book {
-    /// The book of one session, which the user opens with these groups. The journal may have so many entries.
-    pub fn start(
-        alloc: Global,
-        limit: u64,
-        store: Store,
-        user: &Name,
-        groups: &Names,
-    ) -> Result<Book, NoMemory>
-        requires some { 0 < limit }
+    /// The book of a journal without entries, which may have so many.
+    pub fn empty(alloc: Global, limit: u64) -> Book
         requires bounded { limit < 2 ^ 32 }
-        requires bare { store ≡ record { cat = record { tables = [] }; tables = [] } }
-        ensures journal { IfOk result (λ b. b.journal.items ≡ entries.Open user.now groups.now ∷ []) }
-        ensures limit { IfOk result (λ b. b.limit ≡ limit) }
-        ensures stands { IfOk result (λ b. Stands b.journal.items b.limit b.store) }
+        ensures journal { result.journal.items ≡ [] }
+        ensures limit { result.limit ≡ limit }
+        ensures sessions { result.sessions ≡ 0 }
+        ensures stands { Stands result.journal.items result.limit result.store }
     {
+        Book {
+            journal: Vec::new(alloc),
+            limit,
+            sessions: 0,
+            store: Store::empty(alloc),
+        }
+    }
+
+    /// Opens a session of the user with these groups. Its Open is one entry more. `JournalFull` where the journal has as
+    /// many entries as it may have. After an error nothing has changed.
+    pub fn open(&mut self, alloc: Global, user: &Name, groups: &Names) -> Result<Session, Stop>
+        requires stands { Stands self.old.journal.items self.old.limit self.old.store }
+        requires counted { self.old.sessions ≡ opens self.old.journal.items }
+        ensures opened { IfOk result (IsOpened self.old.journal.items self.new.journal.items user.now groups.now) }
+        ensures seated { IfOk result (IsSeated self.new.journal.items) }
+        ensures shut { IfErr result (IsShut self.old.journal.items self.old.limit) }
+        ensures same { OnErr result ((self.new.journal.items ≡ self.old.journal.items) × (self.new.store ≡ self.old.store)) }
+        ensures counted { self.new.sessions ≡ opens self.new.journal.items }
+        ensures limit { self.new.limit ≡ self.old.limit }
+        ensures stands { Stands self.new.journal.items self.new.limit self.new.store }
+    {
+        let place = self.journal.len() as u64;
+        if place >= self.limit {
+            return Err(Stop::JournalFull(self.limit));
+        }
+        let session = Session {
+            place,
+            number: self.sessions,
+            said: 0,
+            user: user.copy()?,
+            groups: groups.copy(alloc)?,
+        };
         let user = user.copy()?;
         let groups = groups.copy(alloc)?;
-        let mut journal = Vec::new(alloc);
-        journal.push(Entry::Open(user, groups))?;
-        Ok(Book {
-            journal,
-            limit,
-            store,
-        })
+        match self.journal.push(Entry::Open(user, groups)) {
+            Ok(()) => {}
+            Err(_) => return Err(Stop::NoMemory),
+        }
+        self.sessions += 1;
+        Ok(session)
     }
 
     /// Runs one statement of a session on a day. The journal grows by at most one entry.
@@ -109,6 +109,7 @@ impl Book {
         ensures ran { Executed self.old.journal.items self.new.journal.items self.old.limit session.old session.new text.now day result }
         ensures stands { Stands self.new.journal.items self.new.limit self.new.store }
         ensures seated { IsSeated self.new.journal.items session.new }
+        ensures sessions { self.new.sessions ≡ self.old.sessions }
         ensures limit { self.new.limit ≡ self.old.limit }
     {
         match self.prepare(alloc, session, day, text) {
@@ -132,13 +133,9 @@ impl Book {
         ensures ready { IfOk result (λ p. IsReady self.now.journal.items self.now.limit self.now.store session.now text.now day p) }
         ensures stopped { IfErr result (λ s. IsStopped self.now.journal.items self.now.limit self.now.store session.now.user text.now s) }
     {
-        let stmt = match read(alloc, text) {
-            Ok(stmt) => stmt,
-            Err(fault) => return Err(stop_for(fault)),
-        };
+        let Readable { stmt, text } = statement_of(alloc, text)?;
         let rows = given_rows(alloc, &stmt)?;
-        let text = canonical(alloc, &stmt)?;
-        if self.is_unbuilt(&session.user, &stmt, &text, &rows) {
+        if self.store.is_unbuilt(&session.user, &stmt, &rows) {
             return Err(Stop::NotYet);
         }
         if self.journal.len() as u64 >= self.limit {
@@ -146,15 +143,6 @@ impl Book {
         }
         let said = entry(alloc, session, day, text)?;
         Ok(Prepared { stmt, rows, said })
-    }
-
-    /// Whether a statement of the user is not built yet, `text` being its canonical text and `rows` those that it gives.
-    fn is_unbuilt(&self, user: &Name, stmt: &Stmt, text: &Str, rows: &RowList) -> bool
-        requires text { text.now ≡ canonical_text stmt.now }
-        requires rows { rows.now ≡ rows_given stmt.now }
-        ensures { result ≡ unbuilt self.now.store.cat self.now.store.tables user.now stmt.now }
-    {
-        is_long(text) || self.store.goes_past(user, stmt, rows)
     }
 
     /// Runs the statement and adds its entry. Where memory is refused nothing changes.
@@ -174,6 +162,7 @@ impl Book {
         ensures stands { OnOk result (Stands self.new.journal.items self.new.limit self.new.store) }
         ensures seated { OnOk result (IsSeated self.new.journal.items session.new) }
         ensures limit { self.new.limit ≡ self.old.limit }
+        ensures sessions { self.new.sessions ≡ self.old.sessions }
         ensures err { OnErr result ((self.new.journal.items ≡ self.old.journal.items) × (self.new.store ≡ self.old.store) × (session.new ≡ session.old)) }
     {
         let _ = text;
@@ -193,13 +182,6 @@ impl Book {
             reply,
         })
     }
-}
-
-/// Whether the text is too long for an entry.
-fn is_long(text: &Str) -> bool
-    ensures { result ≡ nat_lt 4096 (length text.now) }
-{
-    text.as_str().len() > 4096
 }
 
 /// The entry of the session's next statement.
@@ -258,23 +240,5 @@ fn mark_of(stmt: &Stmt) -> Mark
     match stmt {
         Stmt::Change(_) => Mark::Dash,
         _ => Mark::Compiled,
-    }
-}
-
-/// The answer to a statement without a place.
-fn unplaced(stop: Stop) -> Answer
-    ensures place { result.place ≡ None }
-    ensures mark { result.mark ≡ marks.Dash }
-    ensures reply { result.reply ≡ stop_reply stop }
-{
-    let reply = match stop {
-        Stop::NoMemory => Reply::NoMemory,
-        Stop::NotYet => Reply::Refused(Refusal::NotYet),
-        Stop::JournalFull(limit) => Reply::Refused(Refusal::JournalFull(limit)),
-    };
-    Answer {
-        place: None,
-        mark: Mark::Dash,
-        reply,
     }
 }

@@ -2,10 +2,10 @@
 #![tactic(auto)]
 
 mod book;
+mod output;
+mod readable;
 mod run;
-mod script;
+mod section;
+mod stop;
 
 pub use run::{run_alone, run_within};
-
-#[cfg(test)]
-mod tests;

@@ -14,6 +14,7 @@ use Rattle.lb_model.specs.declared.reply.Reply.{Reply}
 use Rattle.lb_model.specs.Step.{State, first}
 use Rattle.lb_model.specs.Journal.{Follows, MadeFrom, IsMade, mine_from, mine, opened_by, said_by, is_said_by}
 use Rattle.lb_model.specs.Replay.{Replay, Runs, Rep}
+use Rattle.lb_model.specs.Telling.{end_of}
 use Rattle.lb_model.specs.Told.{Placed, IsUnplaced, Unplaced, Told, places, places_and, count_from}
 
 pub get_left : {A : Type 0} (xs ys : List A) (k : ℕ) (x : A) → slice_get xs k ≡ Some x → slice_get (xs ++ ys) k ≡ Some x
@@ -59,7 +60,8 @@ placed_left J K user text day e a h =
 cause_left : (J K : List Entry) (limit at : ℕ) (S : State) (user text : List ℕ) (r : Reply) → length J < limit → IsUnplaced J limit at S user text r → IsUnplaced (J ++ K) limit at S user text r
 cause_left J K limit at S user text r lt (inl h) = inl h
 cause_left J K limit at S user text r lt (inr (inl h)) = inr (inl h)
-cause_left J K limit at S user text r lt (inr (inr h)) = let full : length J ≡ limit = h.3 in absurd (omega arith)
+cause_left J K limit at S user text r lt (inr (inr (inl h))) = inr (inr (inl h))
+cause_left J K limit at S user text r lt (inr (inr (inr h))) = let full : length J ≡ limit = h.3 in absurd (omega arith)
 
 pub unplaced_left : (J K : List Entry) (limit at : ℕ) (user text : List ℕ) (a : Answer) → length J < limit → Unplaced J limit at user text a → Unplaced (J ++ K) limit at user text a
 unplaced_left J K limit at user text a lt h = record {
@@ -85,11 +87,7 @@ told_left J K limit user at (n ∷ next) (t ∷ ts) [] ans lt h = absurd h
 told_left J K limit user at [] (t ∷ ts) (d ∷ ds) [] lt h = absurd h
 told_left J K limit user at (n ∷ next) (t ∷ ts) (d ∷ ds) [] lt h = absurd h
 
--- the number of entries that stand before the next statement, once these entries have been told of
-abbrev pub end_of : ℕ → List (ℕ × Said) → ℕ
-end_of at [] = at
-end_of at (e ∷ next) = end_of (e.0 + 1) next
-
+-- with one entry more
 pub end_of_more : (at : ℕ) (next : List (ℕ × Said)) (e : ℕ × Said) → end_of at (next ++ e ∷ []) ≡ e.0 + 1
 end_of_more at [] e = refl
 end_of_more at (f ∷ next) e = end_of_more (f.0 + 1) next e
@@ -131,7 +129,7 @@ chosen : {A : Type 0} (b : Bool) (x : A) (xs ys : List A) → cond b (x ∷ (xs 
 chosen true x xs ys = refl
 chosen false x xs ys = refl
 
-mine_from_more : (s at : ℕ) (J K : List Entry) → mine_from s at (J ++ K) ≡ mine_from s at J ++ mine_from s (at + length J) K
+pub mine_from_more : (s at : ℕ) (J K : List Entry) → mine_from s at (J ++ K) ≡ mine_from s at J ++ mine_from s (at + length J) K
 mine_from_more s at [] K = rw add-zero refl
 mine_from_more s at (entries.Open user groups ∷ es) K = rw (← shifted at (length es)) (mine_from_more s (at + 1) es K)
 mine_from_more s at (entries.Said d ∷ es) K =

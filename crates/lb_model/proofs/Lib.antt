@@ -1,3 +1,6 @@
-pub mod One
-pub mod Roots
 pub mod Grows
+pub mod Roots
+pub mod Sectioned
+pub mod Sessions
+pub mod Telling
+pub mod There

@@ -17,7 +17,7 @@ use Rattle.lb_model.specs.declared.catalog.TableRec.{TableRec}
 use Rattle.lb_model.specs.declared.catalog.TableVersion.{TableVersion}
 use Rattle.lb_model.specs.declared.reply.Reply.{Reply}
 use Rattle.lb_model.specs.declared.reply.Reply.TheVariants as replies
-use Rattle.lb_model.specs.declared.reply.Refusal.TheVariants as refusals
+use Rattle.lb_model.specs.declared.refusal.Refusal.TheVariants as refusals
 use Rattle.lb_model.specs.declared.reply.Verb.TheVariants as verbs
 use Rattle.lb_model.specs.Evaluation.{ExprLayer}
 use Rattle.lb_model.specs.Catalog.{Cat, Tables, table_named, rows_of}

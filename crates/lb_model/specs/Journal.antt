@@ -1,8 +1,8 @@
 -- The journal: one entry for each opening of a session and for each statement with a place, in one order.
 use Rattle.std.specs.Prelude.{ℕ, zero, suc, ℤ, pos, negsuc, ◌≡◌, ◌≤◌, ◌≤ℤ◌, ◌+◌, ◌==◌, Bool, true, false, List, [], ◌∷◌, ◌++◌, length, count_by, Option, None, Some, if◌then◌else◌}
 use Rattle.lb_base.specs.declared.write.Stmt.{Stmt}
-use Rattle.lb_small_tok.specs.Canonical.{canonical}
-use Rattle.lb_small_tok.specs.Spelled.{IsSpoken}
+use Rattle.lb_tok.specs.Canonical.{canonical}
+use Rattle.lb_tok.specs.Spelled.{IsSpoken}
 use Rattle.lb_model.specs.declared.entry.Said.{Said}
 use Rattle.lb_model.specs.declared.entry.Entry.{Entry}
 use Rattle.lb_model.specs.declared.entry.Entry.TheVariants as entries

@@ -1,5 +1,5 @@
 -- Which statements are not built yet: those of other forms than the five, and those that would go past a limit whose refusal is not built.
-use Rattle.std.specs.Prelude.{ℕ, ◌≡◌, ◌≤◌, ◌*◌, Bool, true, false, not, ◌&&◌, ◌||◌, ◌==◌, nat_lt, List, [], ◌∷◌, ◌++◌, length, Option, None, Some, is_some, ◌⊎◌, if◌then◌else◌}
+use Rattle.std.specs.Prelude.{ℕ, ◌≡◌, ◌≤◌, ◌*◌, Bool, true, false, not, ◌&&◌, ◌||◌, ◌==◌, nat_lt, List, [], ◌∷◌, ◌++◌, length, codes, Option, None, Some, is_some, ◌⊎◌, if◌then◌else◌}
 use Rattle.std.specs.List.{list_any}
 use Rattle.lb_base.specs.declared.value.Value.{Value}
 use Rattle.lb_base.specs.declared.value.Value.TheVariants as values
@@ -8,8 +8,8 @@ use Rattle.lb_base.specs.declared.key.Ty.TheVariants as types
 use Rattle.lb_base.specs.declared.write.Stmt.{Stmt}
 use Rattle.lb_base.specs.declared.write.Stmt.TheVariants as stmts
 use Rattle.lb_base.specs.declared.change.Change.TheVariants as changes
-use Rattle.lb_small_tok.specs.Canonical.{canonical}
-use Rattle.lb_small_tok.specs.Spelled.{Reads}
+use Rattle.lb_tok.specs.Syntax.{IsReadable}
+use Rattle.lb_model.specs.Small.{IsSmall}
 use Rattle.lb_model.specs.declared.catalog.ColumnRec.{ColumnRec}
 use Rattle.lb_model.specs.declared.catalog.TableRec.{TableRec}
 use Rattle.lb_model.specs.Catalog.{Cat, Tables, table_named, rows_of}
@@ -50,15 +50,16 @@ goes_past C T user (stmts.Change (changes.CreateTable n es policy)) = not (is_so
 goes_past C T user (stmts.Insert i) = is_insert_unbuilt user (table_named i.table C.tables) (rows_of i.table T) (given_rows i.source)
 goes_past C T user s = false
 
--- of a statement that can be read: its canonical text is too long for an entry, or it goes past a limit
-abbrev pub is_unbuilt : Cat → Tables → List ℕ → Stmt → Bool
-is_unbuilt C T user s = nat_lt 4096 (length (canonical s)) || goes_past C T user s
+-- of a statement that can be read: it is of another form, or of another user than SECADMIN, or it goes past a limit
+abbrev pub IsUnbuilt : Cat → Tables → List ℕ → Stmt → Type 0
+IsUnbuilt C T user s = (IsSmall s → ⊥) ⊎ ((user ≡ codes "SECADMIN") → ⊥) ⊎ (goes_past C T user s ≡ true)
 
--- the text is not built yet over this catalogue and these rows: no statement that it spells is
-abbrev pub IsNotYet : Cat → Tables → List ℕ → List ℕ → Type 0
-IsNotYet C T user text = (s : Stmt) → Reads text s → is_unbuilt C T user s ≡ true
+-- the text can be read as this statement, which is not built yet
+pub record IsNotYet (C : Cat) (T : Tables) (user text : List ℕ) (s : Stmt) : Type 0 where
+  pub reads : IsReadable text s
+  pub unbuilt : IsUnbuilt C T user s
 
--- the text is that of this statement, which is built
+-- the text can be read as this statement, which is built
 pub record IsBuilt (C : Cat) (T : Tables) (user text : List ℕ) (s : Stmt) : Type 0 where
-  pub reads : Reads text s
-  pub built : is_unbuilt C T user s ≡ false
+  pub reads : IsReadable text s
+  pub built : IsUnbuilt C T user s → ⊥

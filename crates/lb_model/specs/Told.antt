@@ -1,7 +1,8 @@
 -- What a session is told: one answer for each of its statements, each right by the journal.
 use Rattle.std.specs.Prelude.{ℕ, zero, suc, ℤ, ◌≡◌, ◌⊎◌, ◌+◌, ◌≤◌, Bool, true, false, List, [], ◌∷◌, take, length, slice_get, Option, None, Some}
 use Rattle.lb_base.specs.declared.write.Stmt.{Stmt}
-use Rattle.lb_small_tok.specs.Canonical.{canonical}
+use Rattle.lb_tok.specs.Canonical.{canonical}
+use Rattle.lb_tok.specs.Syntax.{IsReadable, IsSyntaxAt}
 use Rattle.lb_model.specs.declared.entry.Said.{Said}
 use Rattle.lb_model.specs.declared.entry.Entry.{Entry}
 use Rattle.lb_model.specs.declared.entry.Entry.TheVariants as entries
@@ -10,7 +11,7 @@ use Rattle.lb_model.specs.declared.reply.Mark.{Mark}
 use Rattle.lb_model.specs.declared.reply.Mark.TheVariants as marks
 use Rattle.lb_model.specs.declared.reply.Reply.{Reply}
 use Rattle.lb_model.specs.declared.reply.Reply.TheVariants as replies
-use Rattle.lb_model.specs.declared.reply.Refusal.TheVariants as refusals
+use Rattle.lb_model.specs.declared.refusal.Refusal.TheVariants as refusals
 use Rattle.lb_model.specs.Answer.{is_query, is_change}
 use Rattle.lb_model.specs.Step.{State}
 use Rattle.lb_model.specs.Replay.{Replay, Rep}
@@ -38,12 +39,13 @@ pub record Placed (J : List Entry) (user text : List ℕ) (day : ℤ) (next : �
   pub mark : a.mark ≡ mark_of stmt
   pub reply : Rep J next.0 a.reply ⊎ ((is_query stmt ≡ true) × (a.reply ≡ replies.NoMemory))
 
--- Why a statement has no place: memory was refused; or it is not built yet where the first `at` entries stand;
--- or it is built there, and the journal has as many entries as it may have.
+-- Why a statement has no place: memory was refused; or its text is refused at a byte; or it is not built yet where the first `at` entries
+-- stand; or it is built there, and the journal has as many entries as it may have.
 abbrev pub IsUnplaced : List Entry → ℕ → ℕ → State → List ℕ → List ℕ → Reply → Type 0
 IsUnplaced J limit at S user text reply =
     (reply ≡ replies.NoMemory)
-    ⊎ ((reply ≡ replies.Refused refusals.NotYet) × IsNotYet S.cat S.tables user text)
+    ⊎ ((byte : ℕ) × (reply ≡ replies.Refused (refusals.Syntax byte)) × IsSyntaxAt text byte)
+    ⊎ ((reply ≡ replies.Refused refusals.NotYet) × ((s : Stmt) × IsNotYet S.cat S.tables user text s))
     ⊎ ((reply ≡ replies.Refused (refusals.JournalFull limit)) × ((s : Stmt) × IsBuilt S.cat S.tables user text s) × (at ≡ limit) × (length J ≡ limit))
 
 pub record Unplaced (J : List Entry) (limit at : ℕ) (user text : List ℕ) (a : Answer) : Type 0 where

@@ -9,16 +9,14 @@ ghost use Rattle.lb_model.specs.Step.{State};
 ghost use Rattle.lb_model.specs.Replay.{Replay, Rep};
 ghost use Rattle.lb_model.specs.Roots.{root};
 
-/// A well-made journal leaves one state.
-pub fn journal_has_one_replay()
-    ensures there { (J : List Entry) → IsMade J → (T : State) × Replay J T }
-    ensures one { (J : List Entry) (T U : State) → Replay J T → Replay J U → T ≡ U }
+/// A well-made journal leaves a state.
+pub fn journal_has_a_replay()
+    ensures { (J : List Entry) → IsMade J → (T : State) × Replay J T }
 {}
 
-/// Each statement of a well-made journal has one reply, and a place has at most one.
-pub fn place_has_one_reply()
-    ensures there { (J : List Entry) (k : ℕ) (d : Said) → IsMade J → slice_get J k ≡ Some (entries.Said d) → (r : Reply) × Rep J k r }
-    ensures one { (J : List Entry) (k : ℕ) (r q : Reply) → Rep J k r → Rep J k q → r ≡ q }
+/// Each statement of a well-made journal has a reply.
+pub fn statement_has_a_reply()
+    ensures { (J : List Entry) (k : ℕ) (d : Said) → IsMade J → slice_get J k ≡ Some (entries.Said d) → (r : Reply) × Rep J k r }
 {}
 
 /// The root of a place is that place or an earlier one, and stays as the journal grows.

@@ -4,9 +4,11 @@
 mod catalog;
 mod entry;
 mod laws;
+mod refusal;
 mod reply;
 
 pub use catalog::{ColumnRec, PermissionRec, TableRec, TableVersion};
 pub use entry::{Entry, Said};
-pub use laws::{journal_has_one_replay, place_has_one_reply, root_stays};
-pub use reply::{Answer, Mark, Refusal, Reply, Verb};
+pub use laws::{journal_has_a_replay, root_stays, statement_has_a_reply};
+pub use refusal::{Flaw, LimitOf, Refusal, Right};
+pub use reply::{Answer, Mark, Reply, Verb};

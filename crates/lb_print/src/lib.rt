@@ -1,13 +1,14 @@
-//! The printer: the canonical text of a statement, and the lines that show an answer.
+//! The printer: the canonical text of a statement.
 #![tactic(auto)]
 
-mod form;
-mod output;
+mod access;
+mod change;
+mod grant;
+mod keyword;
+mod label;
 mod statement;
-mod text;
+mod table;
+mod word;
+mod write;
 
-pub use output::{block, header};
 pub use statement::canonical;
-
-#[cfg(test)]
-mod tests;

@@ -3,8 +3,6 @@
 
 mod laws;
 mod reading;
-#[cfg(test)]
-mod tests;
 
 pub use laws::{
     a_canonical_text_is_read_again, a_text_goes_wrong_at_one_byte,

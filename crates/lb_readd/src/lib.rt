@@ -10,8 +10,6 @@ mod laws;
 mod parse;
 mod parts;
 mod table;
-#[cfg(test)]
-mod tests;
 mod types;
 
 pub use laws::{defining_is_exact, first_token_decides, no_tokens_have_two_definitions};

@@ -14,8 +14,6 @@ mod order;
 mod parse;
 mod reader;
 mod table;
-#[cfg(test)]
-mod tests;
 mod write;
 
 pub use laws::{no_tokens_have_two_trees, reading_is_exact};

@@ -61,7 +61,8 @@ fn correlation_of(on: &Tab) -> &Name
     }
 }
 
-fn is_on(switch: Switch) -> bool
+/// Whether the switch is ENABLE.
+pub fn is_on(switch: Switch) -> bool
     ensures { result ≡ is_enabled switch }
 {
     match switch {

@@ -9,6 +9,7 @@ mod limits;
 mod permission;
 mod query;
 mod refused;
+mod small;
 mod store;
 
 pub use insert::given_rows;

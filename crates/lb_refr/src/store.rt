@@ -1,11 +1,12 @@
 // The catalogue and the rows that stand.
-ghost use Rattle.std.specs.Prelude.{◌≡◌, [], IfOk, OnErr};
-ghost use Rattle.lb_model.specs.NotYet.{rows_given, goes_past};
+ghost use Rattle.std.specs.Prelude.{◌≡◌, ◌↔◌, [], IsTrue, IfOk, OnErr};
+ghost use Rattle.lb_model.specs.NotYet.{IsUnbuilt, rows_given, goes_past};
 
 use crate::change::run_change;
 use crate::insert::insert;
 use crate::limits::{are_rows_too_many, is_table_too_many};
 use crate::query::select;
+use crate::small::{is_secadmin, is_small};
 use lb_base::{Change, Listing, Name, NoMemory, RowList, Stmt};
 use lb_model::{Reply, TableRec, TableVersion};
 use std::alloc::Global;
@@ -43,9 +44,18 @@ impl Store {
         }
     }
 
-    /// Whether the statement of the user goes past a limit: it would make the 65th table, or `rows`, those that it
-    /// gives, do not fit its table or would leave it with more than 131,072 cells.
-    pub fn goes_past(&self, user: &Name, stmt: &Stmt, rows: &RowList) -> bool
+    /// Whether the statement of the user is not built yet: it is of another form than the five small ones, or the user is not
+    /// SECADMIN, or it goes past a limit, since it would make the 65th table, or `rows`, those that it gives, do not fit its
+    /// table or would leave it with more than 131,072 cells.
+    pub fn is_unbuilt(&self, user: &Name, stmt: &Stmt, rows: &RowList) -> bool
+        requires given { rows.now ≡ rows_given stmt.now }
+        ensures { IsTrue result ↔ IsUnbuilt self.now.cat self.now.tables user.now stmt.now }
+    {
+        !is_small(stmt) || !is_secadmin(user) || self.goes_past(user, stmt, rows)
+    }
+
+    // Whether the statement would make the 65th table, or the rows are not built.
+    fn goes_past(&self, user: &Name, stmt: &Stmt, rows: &RowList) -> bool
         requires given { rows.now ≡ rows_given stmt.now }
         ensures { result ≡ goes_past self.now.cat self.now.tables user.now stmt.now }
     {

@@ -8,6 +8,3 @@ mod script;
 
 pub use piece::{Piece, resume, split};
 pub use script::{Script, ScriptFault, Section, Span, Spans, sections};
-
-#[cfg(test)]
-mod tests;

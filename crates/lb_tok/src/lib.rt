@@ -5,8 +5,6 @@ mod call;
 mod kind;
 mod laws;
 mod lex;
-#[cfg(test)]
-mod tests;
 mod token;
 
 pub use call::Call;

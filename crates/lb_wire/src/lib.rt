@@ -7,8 +7,6 @@ mod memory;
 mod outside;
 mod status;
 mod std_ends;
-#[cfg(test)]
-mod tests;
 mod transfer;
 
 pub use day_clock::DayClock;

@@ -20,8 +20,6 @@ pub enum Status {
     BadScript(u32),
     /// The script has more sessions than run at once.
     TooManySessions,
-    /// The input has a form that is not built yet.
-    NotYet,
 }
 
 impl Status {
@@ -38,7 +36,6 @@ impl Status {
             Status::TooLong => 6,
             Status::BadScript(_) => 7,
             Status::TooManySessions => 8,
-            Status::NotYet => 9,
         }
     }
 }

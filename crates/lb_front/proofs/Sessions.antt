@@ -1,0 +1,184 @@
+-- A session, one statement after the other.
+use Rattle.std.proofs.Common.{◌≡◌, inl, inr, ℕ, zero, suc, ◌+◌, ◌<◌, ◌≤◌, List, [], ◌∷◌, ◌++◌, length, take, flat_map, map, get_or, Option, Some, None, refl, sym, ap, subst, ◌∙◌, append_assoc, arith}
+use Rattle.std.specs.Prelude.{ℤ}
+use Rattle.std.specs.Io.KnownBytes.{Appends}
+use Rattle.std.proofs.lemmas.List.{append-nil, take_all, take_more, take-map, take-append-le}
+use Rattle.std.proofs.lemmas.List.Concat.{flat_map-append}
+use Rattle.lb_wire.specs.Told.{Grows, AppendsPart}
+use Rattle.lb_wire.proofs.Told.{Grows-nil, Grows-then, Appends-then, AppendsPart-then}
+use Rattle.lb_model.specs.declared.entry.Entry.{Entry}
+use Rattle.lb_model.specs.declared.entry.Entry.TheVariants as entries
+use Rattle.lb_model.specs.declared.entry.Said.{Said}
+use Rattle.lb_model.specs.declared.reply.Answer.{Answer}
+use Rattle.lb_model.specs.Journal.{IsMade, opens}
+use Rattle.lb_model.specs.Out.{header_text, block_text}
+use Rattle.lb_model.specs.Told.{Placed, Unplaced}
+use Rattle.lb_model.specs.Sections.{Section, opened, Outcome, section_text}
+use Rattle.lb_model.specs.Telling.{Telling, RanSection, first_of}
+use Rattle.lb_model.proofs.Telling.{telling_first, telling_unplaced, telling_placed, ran_session}
+use Rattle.lb_model.proofs.Sessions.{opens_with_said}
+use Rattle.lb_refr.specs.Stored.{Stored}
+use Rattle.lb_front.specs.declared.book.Session.{Session}
+use Rattle.lb_front.specs.Booked.{Stands, IsSeated, IsOpened}
+use Rattle.lb_front.specs.Executed.{Left, Added, Executed, ExecutedAt}
+use Rattle.lb_front.specs.Headline.{Outside}
+use Rattle.lb_front.specs.Running.{SectionRan, SectionPart, session_section, SessionProgress, IsSame, SessionLoops}
+
+-- ---- what a statement adds
+
+same_at : (p : Option ℕ) (s now after : Session) (J K : List Entry) (limit : ℕ) (text : List ℕ) (day : ℤ) (a : Answer) → IsSame s now → ExecutedAt p J K limit now after text day a → IsSame s after
+same_at None s now after J K limit text day a h x = subst (λ (n : Session). IsSame s n) (sym x.uncounted) h
+same_at (Some p) s now after J K limit text day a h x = subst (λ (n : Session). IsSame s n) (sym x.counted) (record { place = h.place; number = h.number; user = h.user; groups = h.groups })
+
+pub opens_at : (p : Option ℕ) (now after : Session) (J K : List Entry) (limit : ℕ) (text : List ℕ) (day : ℤ) (a : Answer) → ExecutedAt p J K limit now after text day a → opens K ≡ opens J
+opens_at None now after J K limit text day a x = ap (λ (L : List Entry). opens L) x.same
+opens_at (Some p) now after J K limit text day a x = ap (λ (L : List Entry). opens L) x.grown ∙ opens_with_said J x.said
+
+telling_at : (p : Option ℕ) (I J K : List Entry) (limit : ℕ) (s now after : Session) (texts : List (List ℕ)) (days : List ℤ) (ans : List Answer) (text : List ℕ) (day : ℤ) (a : Answer)
+    → Telling I J limit s.number s.user s.groups texts days ans → IsSame s now → ExecutedAt p J K limit now after text day a → length K ≤ limit
+    → Telling I K limit s.number s.user s.groups (texts ++ text ∷ []) (days ++ day ∷ []) (ans ++ a ∷ [])
+telling_at None I J K limit s now after texts days ans text day a h same x le =
+    subst (λ (L : List Entry). Telling I L limit s.number s.user s.groups (texts ++ text ∷ []) (days ++ day ∷ []) (ans ++ a ∷ [])) (sym x.same)
+    (telling_unplaced I J limit s.number s.user s.groups texts days ans text day a h (subst (λ (u : List ℕ). Unplaced J limit (length J) u text a) same.user x.unplaced))
+telling_at (Some p) I J K limit s now after texts days ans text day a h same x le =
+    let placed : Placed (J ++ entries.Said x.said ∷ []) s.user text day (length J, x.said) a =
+    subst (λ (u : List ℕ). Placed (J ++ entries.Said x.said ∷ []) u text day (length J, x.said) a) same.user (subst (λ (L : List Entry). Placed L now.user text day (length J, x.said) a) x.grown x.placed) in
+    subst (λ (L : List Entry). Telling I L limit s.number s.user s.groups (texts ++ text ∷ []) (days ++ day ∷ []) (ans ++ a ∷ [])) (sym x.grown)
+    (telling_placed I J limit s.number s.user s.groups texts days ans text day a x.said h (x.own ∙ same.number) placed (subst (λ (L : List Entry). length L ≤ limit) x.grown le))
+
+-- ---- texts
+
+-- the text of the session with one block more
+text_more : (limit : ℕ) (s : Session) (texts more : List (List ℕ)) (days later : List ℤ) (ans : List Answer) (a : Answer)
+    → section_text limit (session_section s texts) (record { opening = opened s.place s.number; days = days; answers = ans }) ++ block_text a ≡ section_text limit (session_section s more) (record { opening = opened s.place s.number; days = later; answers = ans ++ a ∷ [] })
+text_more limit s texts more days later ans a =
+    let head : List ℕ = header_text s.place s.number s.user in
+    let blocks : flat_map block_text (ans ++ a ∷ []) ≡ flat_map block_text ans ++ block_text a = flat_map-append block_text ans (a ∷ []) ∙ ap (λ (t : List ℕ). flat_map block_text ans ++ t) (append-nil (block_text a)) in
+    append_assoc head (flat_map block_text ans) (block_text a) ∙ ap (λ (t : List ℕ). head ++ t) (sym blocks)
+
+-- one item more of a mapped list
+pub mapped_more : {A B : Type 0} (f : A → B) (xs : List A) (i : ℕ) (d : A) → i < length xs → take (i + 1) (map f xs) ≡ take i (map f xs) ++ f (get_or xs i d) ∷ []
+mapped_more {A} {B} f xs i d lt =
+    take-map f (i + 1) xs ∙ ap (λ (ys : List A). map f ys) (take_more xs i d lt) ∙ map_one (take i xs) ∙ ap (λ (ys : List B). ys ++ f (get_or xs i d) ∷ []) (sym (take-map f i xs))
+  where
+    map_one : (ys : List A) → map f (ys ++ get_or xs i d ∷ []) ≡ map f ys ++ f (get_or xs i d) ∷ []
+    map_one [] = refl
+    map_one (y ∷ ys) = ap (λ (zs : List B). f y ∷ zs) (map_one ys)
+
+pub mapped_all : {A B : Type 0} (f : A → B) (xs : List A) (i : ℕ) → length xs ≤ i → length (map f xs) ≤ i
+mapped_all {A} {B} f xs i le = let h = same xs in omega (arith, h, le)
+  where
+    same : (ys : List A) → length (map f ys) ≡ length ys
+    same [] = refl
+    same (y ∷ ys) = ap suc (same ys)
+
+-- ---- a statement more
+
+progress_more : (p : Option ℕ) (I J K : List Entry) (limit : ℕ) (s now after : Session) (texts : List (List ℕ)) (text : List ℕ) (day : ℤ) (a : Answer) (g0 g1 g2 : Option (List ℤ)) (w0 w1 w2 : Option (List ℕ))
+    → SessionProgress I J limit s texts (record { given = g0; given_now = g1; written = w0; written_now = w1 }) → IsSame s now → ExecutedAt p J K limit now after text day a → length K ≤ limit
+    → Grows g1 g2 (day ∷ []) → Appends w1 w2 (block_text a) → SessionProgress I K limit s (texts ++ text ∷ []) (record { given = g0; given_now = g2; written = w0; written_now = w2 })
+progress_more p I J K limit s now after texts text day a g0 g1 g2 w0 w1 w2 h same x le g w =
+    let whole = section_text limit (session_section s texts) (record { opening = opened s.place s.number; days = h.days; answers = h.answers }) in
+    record {
+      days = h.days ++ day ∷ [];
+      answers = h.answers ++ a ∷ [];
+      telling = telling_at p I J K limit s now after texts h.days h.answers text day a h.telling same x le;
+      clock = Grows-then g0 g1 g2 h.days (day ∷ []) h.clock g;
+      bytes = subst (λ (t : List ℕ). Appends w0 w2 t) (text_more limit s texts (texts ++ text ∷ []) h.days (h.days ++ day ∷ []) h.answers a) (Appends-then w0 w1 w2 whole (block_text a) h.bytes w);
+    }
+
+-- the block of the last answer was not written whole
+part_more : (p : Option ℕ) (I J K : List Entry) (limit : ℕ) (s now after : Session) (all : List (List ℕ)) (i : ℕ) (text : List ℕ) (day : ℤ) (a : Answer) (g0 g1 g2 : Option (List ℤ)) (w0 w1 w2 : Option (List ℕ)) → s.place ≡ length I
+    → SessionProgress I J limit s (take i all) (record { given = g0; given_now = g1; written = w0; written_now = w1 }) → IsSame s now → ExecutedAt p J K limit now after text day a → length K ≤ limit → take (i + 1) all ≡ take i all ++ text ∷ []
+    → Grows g1 g2 (day ∷ []) → AppendsPart w1 w2 (block_text a) → SectionPart I K limit (session_section s all) (record { given = g0; given_now = g2; written = w0; written_now = w2 })
+part_more p I J K limit s now after all i text day a g0 g1 g2 w0 w1 w2 at h same x le more g w =
+    let texts : List (List ℕ) = take i all in
+    let days : List ℤ = h.days ++ day ∷ [] in
+    let ans : List Answer = h.answers ++ a ∷ [] in
+    let whole = section_text limit (session_section s texts) (record { opening = opened s.place s.number; days = h.days; answers = h.answers }) in
+    let t : Telling I K limit s.number s.user s.groups (take (i + 1) all) days ans = rw more (telling_at p I J K limit s now after texts h.days h.answers text day a h.telling same x le) in
+    record {
+      count = i + 1;
+      outcome = record { opening = opened s.place s.number; days = days; answers = ans };
+      ran = rw at (ran_session I K limit s.number s.user s.groups (take (i + 1) all) days ans t);
+      clock = Grows-then g0 g1 g2 h.days (day ∷ []) h.clock g;
+      bytes = subst (λ (t : List ℕ). AppendsPart w0 w2 t) (text_more limit s texts (take (i + 1) all) h.days days h.answers a) (AppendsPart-then w0 w1 w2 whole (block_text a) h.bytes w);
+    }
+
+-- ---- the ends of a session's statements
+
+-- the session was opened
+told_first : (I J : List Entry) (limit : ℕ) (s : Session) → IsOpened I J s.user s.groups s → IsMade I → Telling I J limit s.number s.user s.groups [] [] []
+told_first I J limit s o made =
+    subst (λ (n : ℕ). Telling I J limit n s.user s.groups [] [] []) (sym o.number) (subst (λ (L : List Entry). Telling I L limit (opens I) s.user s.groups [] [] []) (sym o.grown) (telling_first I limit s.user s.groups made))
+
+header_alone : (limit : ℕ) (s : Session) (texts : List (List ℕ)) → header_text s.place s.number s.user ≡ section_text limit (session_section s texts) (record { opening = opened s.place s.number; days = []; answers = [] })
+header_alone limit s texts = sym (append-nil (header_text s.place s.number s.user))
+
+pub looping_first : (J : List Entry) (limit : ℕ) (stored : Stored) (s : Session) (all : List (List ℕ)) (g : Option (List ℤ)) (w0 w1 : Option (List ℕ)) (sessions f0 f1 : ℕ) → Stands J limit stored → IsSeated J s
+    → Appends w0 w1 (header_text s.place s.number s.user) → f0 ≤ f1 → SessionLoops J J limit stored s s (take 0 all) (record { given = g; given_now = g; written = w0; written_now = w1 }) limit sessions sessions f0 f1
+looping_first J limit stored s all g w0 w1 sessions f0 f1 stands seated w le = record {
+  progress = λ I o made. record {
+    days = [];
+    answers = [];
+    telling = told_first I J limit s o made;
+    clock = Grows-nil g;
+    bytes = subst (λ (t : List ℕ). Appends w0 w1 t) (header_alone limit s []) w;
+  };
+  stands = stands;
+  seated = seated;
+  same = record { place = refl; number = refl; user = refl; groups = refl };
+  same_opens = refl;
+  same_limit = refl;
+  same_sessions = refl;
+  later = le;
+}
+
+pub looping_on : (J0 J K : List Entry) (limit limit_now : ℕ) (stored stored_now : Stored) (s now after : Session) (all : List (List ℕ)) (i : ℕ) (text : List ℕ) (day : ℤ) (a : Answer) (g0 g1 g2 : Option (List ℤ)) (w0 w1 w2 : Option (List ℕ)) (l0 n0 n1 n2 f0 f1 f2 : ℕ)
+    → SessionLoops J0 J limit stored s now (take i all) (record { given = g0; given_now = g1; written = w0; written_now = w1 }) l0 n0 n1 f0 f1 → take (i + 1) all ≡ take i all ++ text ∷ []
+    → Executed J K limit now after text day a → Stands K limit_now stored_now → IsSeated K after → limit_now ≡ limit → n2 ≡ n1 → Grows g1 g2 (day ∷ []) → Appends w1 w2 (block_text a) → f1 ≤ f2
+    → SessionLoops J0 K limit_now stored_now s after (take (i + 1) all) (record { given = g0; given_now = g2; written = w0; written_now = w2 }) l0 n0 n2 f0 f2
+looping_on J0 J K limit limit_now stored stored_now s now after all i text day a g0 g1 g2 w0 w1 w2 l0 n0 n1 n2 f0 f1 f2 h more x stands seated same n g w le =
+    let within : length K ≤ limit = subst (λ (m : ℕ). length K ≤ m) same stands.within in
+    record {
+      progress = λ I o made. rw (more, same) (progress_more a.place I J K limit s now after (take i all) text day a g0 g1 g2 w0 w1 w2 (h.progress I o made) h.same x within g w);
+      stands = stands;
+      seated = seated;
+      same = same_at a.place s now after J K limit text day a h.same x;
+      same_opens = opens_at a.place now after J K limit text day a x ∙ h.same_opens;
+      same_limit = same ∙ h.same_limit;
+      same_sessions = n ∙ h.same_sessions;
+      later = omega (arith, h.later, le);
+    }
+
+pub looping_cut : (J0 J K : List Entry) (limit limit_now : ℕ) (stored stored_now : Stored) (s now after : Session) (all : List (List ℕ)) (i : ℕ) (text : List ℕ) (day : ℤ) (a : Answer) (g0 g1 g2 : Option (List ℤ)) (w0 w1 w2 : Option (List ℕ)) (l0 n0 n1 f0 f1 : ℕ)
+    → SessionLoops J0 J limit stored s now (take i all) (record { given = g0; given_now = g1; written = w0; written_now = w1 }) l0 n0 n1 f0 f1 → take (i + 1) all ≡ take i all ++ text ∷ []
+    → Executed J K limit now after text day a → Stands K limit_now stored_now → limit_now ≡ limit → Grows g1 g2 (day ∷ []) → AppendsPart w1 w2 (block_text a)
+    → (I : List Entry) → IsOpened I J0 s.user s.groups s → IsMade I → SectionPart I K l0 (session_section s all) (record { given = g0; given_now = g2; written = w0; written_now = w2 })
+looping_cut J0 J K limit limit_now stored stored_now s now after all i text day a g0 g1 g2 w0 w1 w2 l0 n0 n1 f0 f1 h more x stands same g w I o made =
+    let within : length K ≤ limit = subst (λ (m : ℕ). length K ≤ m) same stands.within in
+    rw (← h.same_limit) (part_more a.place I J K limit s now after all i text day a g0 g1 g2 w0 w1 w2 o.place (h.progress I o made) h.same x within more g w)
+
+-- the line of the section was not written whole
+pub not_begun : (J : List Entry) (limit : ℕ) (s : Session) (all : List (List ℕ)) (g : Option (List ℤ)) (w0 w1 : Option (List ℕ)) → AppendsPart w0 w1 (header_text s.place s.number s.user)
+    → (I : List Entry) → IsOpened I J s.user s.groups s → IsMade I → SectionPart I J limit (session_section s all) (record { given = g; given_now = g; written = w0; written_now = w1 })
+not_begun J limit s all g w0 w1 w I o made = record {
+  count = 0;
+  outcome = record { opening = opened s.place s.number; days = []; answers = [] };
+  ran = rw o.place (ran_session I J limit s.number s.user s.groups [] [] [] (told_first I J limit s o made));
+  clock = Grows-nil g;
+  bytes = subst (λ (t : List ℕ). AppendsPart w0 w1 t) (header_alone limit s []) w;
+}
+
+-- no statement is left
+pub ended : (J0 J : List Entry) (limit : ℕ) (stored : Stored) (s now : Session) (all : List (List ℕ)) (i : ℕ) (o : Outside) (l0 n0 n1 f0 f1 : ℕ) → SessionLoops J0 J limit stored s now (take i all) o l0 n0 n1 f0 f1 → length all ≤ i
+    → (I : List Entry) → IsOpened I J0 s.user s.groups s → IsMade I → SectionRan I J l0 (session_section s all) o
+ended J0 J limit stored s now all i o l0 n0 n1 f0 f1 h le I p made =
+    let whole : take i all ≡ all = take_all i all le in
+    let q : SessionProgress I J l0 s all o = rw (← h.same_limit, ← whole) (h.progress I p made) in
+    record {
+      outcome = record { opening = opened s.place s.number; days = q.days; answers = q.answers };
+      ran = rw p.place (ran_session I J l0 s.number s.user s.groups all q.days q.answers q.telling);
+      clock = q.clock;
+      bytes = q.bytes;
+    }

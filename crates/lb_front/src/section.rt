@@ -1,0 +1,168 @@
+// The run of one section.
+ghost use Rattle.std.specs.Prelude.{◌≡◌, ◌≤◌, ◌<◌, ◌^◌, ℕ, List, map, OnOk, OnErr, Err, slice_range};
+ghost use Rattle.lb_wire.specs.Causes.{Rose};
+ghost use Rattle.lb_model.specs.declared.entry.Entry.{Entry};
+ghost use Rattle.lb_model.specs.Journal.{IsMade, opens};
+ghost use Rattle.lb_front.specs.Booked.{Stands, IsSeated, IsOpened};
+ghost use Rattle.lb_front.specs.Scripted.{section_in, text_in};
+ghost use Rattle.lb_front.specs.declared.output.Cut.TheVariants as cuts;
+ghost use Rattle.lb_front.specs.Running.{SectionRan, SectionCut, SectionPart, ShutRan, ShutPart, IsShutAnswer, session_section, RanBehind, CutBehind};
+
+use crate::book::{Book, Session};
+use crate::output::{Cut, put_block, put_full, put_header};
+use crate::readable::statement_of;
+use crate::stop::{Stop, unplaced};
+use lb_model::Answer;
+use lb_split::{Section, Span};
+use lb_wire::{Clock, Sink};
+use std::alloc::Global;
+
+/// Runs sections, whose statements stand in the bytes, one after the other.
+pub fn run_sections<K: Sink, C: Clock>(
+    alloc: Global,
+    bytes: &[u8],
+    sections: &[Section],
+    book: &mut Book,
+    sink: &mut K,
+    clock: &mut C,
+) -> Result<(), Cut>
+    requires stands { Stands book.old.journal.items book.old.limit book.old.store }
+    requires counted { book.old.sessions ≡ opens book.old.journal.items }
+    ensures ran { OnOk result (RanBehind book.old.journal.items book.new.journal.items book.old.limit (map (section_in bytes.now) sections.now) (record { given = C.given clock.old; given_now = C.given clock.new; written = K.written sink.old; written_now = K.written sink.new })) }
+    ensures cut { OnErr result (CutBehind book.old.journal.items book.old.limit (map (section_in bytes.now) sections.now) (record { given = C.given clock.old; given_now = C.given clock.new; written = K.written sink.old; written_now = K.written sink.new })) }
+    ensures stands { Stands book.new.journal.items book.new.limit book.new.store }
+    ensures counted { book.new.sessions ≡ opens book.new.journal.items }
+    ensures limit { book.new.limit ≡ book.old.limit }
+    ensures cause { result ≡ Err cuts.WriteFault → Rose (K.faults sink.old) (K.faults sink.new) }
+    ensures later { K.faults sink.old ≤ K.faults sink.new }
+{
+    for section in sections {
+        match run_section(alloc, bytes, section, book, sink, clock) {
+            Ok(()) => {}
+            Err(cut) => return Err(cut),
+        }
+    }
+    Ok(())
+}
+
+/// Opens the session of a section, whose statements stand in the bytes, and runs them. Its line is written first, and
+/// the block of each statement when it is done.
+fn run_section<K: Sink, C: Clock>(
+    alloc: Global,
+    bytes: &[u8],
+    section: &Section,
+    book: &mut Book,
+    sink: &mut K,
+    clock: &mut C,
+) -> Result<(), Cut>
+    requires stands { Stands book.old.journal.items book.old.limit book.old.store }
+    requires counted { book.old.sessions ≡ opens book.old.journal.items }
+    ensures ran { OnOk result (SectionRan book.old.journal.items book.new.journal.items book.old.limit (section_in bytes.now section.now) (record { given = C.given clock.old; given_now = C.given clock.new; written = K.written sink.old; written_now = K.written sink.new })) }
+    ensures cut { OnErr result (SectionCut book.old.journal.items book.new.journal.items book.old.limit (section_in bytes.now section.now) (record { given = C.given clock.old; given_now = C.given clock.new; written = K.written sink.old; written_now = K.written sink.new })) }
+    ensures stands { Stands book.new.journal.items book.new.limit book.new.store }
+    ensures counted { book.new.sessions ≡ opens book.new.journal.items }
+    ensures limit { book.new.limit ≡ book.old.limit }
+    ensures cause { result ≡ Err cuts.WriteFault → Rose (K.faults sink.old) (K.faults sink.new) }
+    ensures later { K.faults sink.old ≤ K.faults sink.new }
+{
+    match book.open(alloc, &section.user, &section.groups) {
+        Ok(session) => {
+            run_session(
+                alloc,
+                bytes,
+                section.statements.as_slice(),
+                session,
+                book,
+                sink,
+                clock,
+            )
+        }
+        Err(Stop::JournalFull(limit)) => {
+            run_shut(alloc, bytes, section.statements.as_slice(), limit, sink)
+        }
+        Err(_) => Err(Cut::NoMemory),
+    }
+}
+
+/// Writes the line of a section, and runs its statements in the session that was opened now.
+fn run_session<K: Sink, C: Clock>(
+    alloc: Global,
+    bytes: &[u8],
+    statements: &[Span],
+    session: Session,
+    book: &mut Book,
+    sink: &mut K,
+    clock: &mut C,
+) -> Result<(), Cut>
+    requires stands { Stands book.old.journal.items book.old.limit book.old.store }
+    requires seated { IsSeated book.old.journal.items session }
+    ensures ran { OnOk result ((J : List Entry) → IsOpened J book.old.journal.items session.user session.groups session → IsMade J → SectionRan J book.new.journal.items book.old.limit (session_section session (map (text_in bytes.now) statements.now)) (record { given = C.given clock.old; given_now = C.given clock.new; written = K.written sink.old; written_now = K.written sink.new })) }
+    ensures cut { OnErr result ((J : List Entry) → IsOpened J book.old.journal.items session.user session.groups session → IsMade J → SectionPart J book.new.journal.items book.old.limit (session_section session (map (text_in bytes.now) statements.now)) (record { given = C.given clock.old; given_now = C.given clock.new; written = K.written sink.old; written_now = K.written sink.new })) }
+    ensures stands { Stands book.new.journal.items book.new.limit book.new.store }
+    ensures sessions { book.new.sessions ≡ book.old.sessions }
+    ensures opens { opens book.new.journal.items ≡ opens book.old.journal.items }
+    ensures limit { book.new.limit ≡ book.old.limit }
+    ensures cause { result ≡ Err cuts.WriteFault → Rose (K.faults sink.old) (K.faults sink.new) }
+    ensures later { K.faults sink.old ≤ K.faults sink.new }
+{
+    let mut session = session;
+    match put_header(alloc, &session, sink) {
+        Ok(()) => {}
+        Err(cut) => return Err(cut),
+    }
+    for span in statements {
+        let day = clock.today();
+        let answer = book.execute(alloc, &mut session, day, part(bytes, *span));
+        match put_block(alloc, answer, sink) {
+            Ok(()) => {}
+            Err(cut) => return Err(cut),
+        }
+    }
+    Ok(())
+}
+
+/// Writes the line of a section whose session was not opened, and answers each of its statements without running it.
+fn run_shut<K: Sink>(
+    alloc: Global,
+    bytes: &[u8],
+    statements: &[Span],
+    limit: u64,
+    sink: &mut K,
+) -> Result<(), Cut>
+    ensures ran { OnOk result (ShutRan limit (map (text_in bytes.now) statements.now) (K.written sink.old) (K.written sink.new)) }
+    ensures cut { OnErr result (ShutPart limit (map (text_in bytes.now) statements.now) (K.written sink.old) (K.written sink.new)) }
+    ensures cause { result ≡ Err cuts.WriteFault → Rose (K.faults sink.old) (K.faults sink.new) }
+    ensures later { K.faults sink.old ≤ K.faults sink.new }
+{
+    match put_full(alloc, limit, sink) {
+        Ok(()) => {}
+        Err(cut) => return Err(cut),
+    }
+    for span in statements {
+        let answer = shut(alloc, limit, part(bytes, *span));
+        match put_block(alloc, answer, sink) {
+            Ok(()) => {}
+            Err(cut) => return Err(cut),
+        }
+    }
+    Ok(())
+}
+
+/// The answer to a statement of a section without a session.
+fn shut(alloc: Global, limit: u64, text: &[u8]) -> Answer
+    ensures { IsShutAnswer limit text.now result }
+{
+    match statement_of(alloc, text) {
+        Ok(_) => unplaced(Stop::JournalFull(limit)),
+        Err(stop) => unplaced(stop),
+    }
+}
+
+/// What stands between two offsets of the bytes; offsets past their end are those of the end.
+fn part(bytes: &[u8], span: Span) -> &[u8]
+    ensures { result.now ≡ text_in bytes.now span }
+{
+    let to = (span.1 as usize).min(bytes.len());
+    let from = (span.0 as usize).min(to);
+    &bytes[from..to]
+}

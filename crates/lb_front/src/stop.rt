@@ -1,0 +1,46 @@
+// Why a statement has no place, and its answer.
+ghost use Rattle.std.specs.Prelude.{◌≡◌, None};
+ghost use Rattle.lb_model.specs.declared.reply.Mark.TheVariants as marks;
+ghost use Rattle.lb_front.specs.declared.stop.Stop.TheVariants as stops;
+ghost use Rattle.lb_front.specs.Prepared.{stop_reply};
+
+use lb_model::{Answer, Mark, Refusal, Reply};
+use std::alloc::AllocError;
+
+/// Why a statement has no place.
+#[derive(Clone, Copy, Debug, PartialEq, Eq)]
+pub enum Stop {
+    NoMemory,
+    /// The text goes wrong at this byte, counted from 0.
+    Syntax(u32),
+    NotYet,
+    /// The journal has as many entries as it may have.
+    JournalFull(u64),
+}
+
+impl From<AllocError> for Stop {
+    ghost from_gives = { λ _ stop. stop ≡ stops.NoMemory };
+
+    fn from(_error: AllocError) -> Stop {
+        Stop::NoMemory
+    }
+}
+
+/// The answer to a statement without a place.
+pub fn unplaced(stop: Stop) -> Answer
+    ensures place { result.place ≡ None }
+    ensures mark { result.mark ≡ marks.Dash }
+    ensures reply { result.reply ≡ stop_reply stop }
+{
+    let reply = match stop {
+        Stop::NoMemory => Reply::NoMemory,
+        Stop::Syntax(at) => Reply::Refused(Refusal::Syntax(at)),
+        Stop::NotYet => Reply::Refused(Refusal::NotYet),
+        Stop::JournalFull(limit) => Reply::Refused(Refusal::JournalFull(limit)),
+    };
+    Answer {
+        place: None,
+        mark: Mark::Dash,
+        reply,
+    }
+}

@@ -1,3 +1,0 @@
-pub mod Doubled
-pub mod Parts
-pub mod Forms

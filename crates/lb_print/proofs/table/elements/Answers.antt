@@ -1,0 +1,8 @@
+use Rattle.lb_tok.specs.declared.kind.Kind.TheVariants as kinds
+use Rattle.lb_tok.specs.ChangePieces.{element_pieces}
+use Rattle.lb_page.proofs.Loops.{separated_more}
+use Rattle.lb_print.proofs.table.elements.Goals as goal
+
+pub loop-place-preserved : goal.loop-place-preserved
+loop-place-preserved c =
+    separated_more kinds.Comma element_pieces c.args.page.now c.loop-place.page c.separator.new.page _ c.args.elements.now c.loop-place.place c.index-elements-place.result c.loop-place-test.true c.index-elements-place.is c.loop-place.invariant c.in_ok-separator.ensures c.in_ok-element.ensures

@@ -1,0 +1,8 @@
+use Rattle.std.proofs.Common.{◌≡◌, take, map}
+use Rattle.lb_tok.specs.Spacing.{laid}
+use Rattle.lb_tok.specs.QueryPieces.{listed}
+use Rattle.lb_tok.specs.ChangePieces.{element_pieces}
+use Rattle.lb_print.proofs.table.elements.Given as goal
+
+abbrev pub invariant-loop-place : goal.invariant-loop-place
+invariant-loop-place l = l.page ≡ laid l.initial.page (listed (map element_pieces (take l.place l.elements)))

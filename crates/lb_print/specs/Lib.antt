@@ -1,2 +1,0 @@
-pub mod Separator
-pub mod Printed

@@ -1,4 +1,0 @@
-pub mod Fronts
-pub mod Lexed
-pub mod Parsed
-pub mod Spelling
