@@ -1,0 +1,5 @@
+pub mod Course
+pub mod Determined
+pub mod One
+pub mod Reader
+pub mod Reading
