@@ -1,0 +1,118 @@
+// The lines of a script.
+ghost use Rattle.std.specs.Prelude.{◌≡◌, ◌≤◌, ◌<◌, ◌^◌, Err, IfOk, OnOk, OnErr, length, map, string_bytes};
+ghost use Rattle.lb_wire.specs.Causes.{Rose};
+ghost use Rattle.lb_wire.specs.declared.status.Status.TheVariants as statuses;
+ghost use Rattle.lb_split.specs.Pieces.{pieces_of};
+ghost use Rattle.lbac_canonical.specs.declared.script.Cut.TheVariants as cuts;
+ghost use Rattle.lbac_canonical.specs.Lines.{IsPut, IsPutPart, IsPrinted, Printed, PrintedPart, statements_in, text_in};
+ghost use Rattle.lbac_canonical.specs.Ending.{Ends};
+
+use crate::line::line_of;
+use lb_base::Listing;
+use lb_split::{Piece, Span, Spans, resume, split};
+use lb_wire::{NoMemory, ReadFault, Sink, Source, Status, put_all, read_all};
+use std::alloc::Global;
+
+/// The most bytes of a script.
+const MOST_BYTES: usize = 16_777_216;
+
+/// Why the lines were not all written.
+#[derive(Clone, Copy, Debug, PartialEq, Eq)]
+enum Cut {
+    NoMemory,
+    WriteFault,
+}
+
+/// Reads a script to its end, and writes the line of each of its statements. Headers, QUIT and blank statements have
+/// none. The status is Done; or ReadFault, TooLong (of more than 16,777,216 bytes) or NoMemory, and nothing was written;
+/// or WriteFault or NoMemory, and the first bytes of the lines were written.
+pub fn put_script<S: Source, K: Sink>(alloc: Global, source: &mut S, sink: &mut K) -> Status
+    ensures ends { Ends result (S.left source.old) (S.left source.new) (K.written sink.old) (K.written sink.new) }
+    ensures read { result ≡ statuses.ReadFault → Rose (S.faults source.old) (S.faults source.new) }
+    ensures write { result ≡ statuses.WriteFault → Rose (K.faults sink.old) (K.faults sink.new) }
+{
+    let script = match read_all(alloc, source, MOST_BYTES) {
+        Ok(script) => script,
+        Err(ReadFault::Failed) => return Status::ReadFault,
+        Err(ReadFault::TooLong) => return Status::TooLong,
+        Err(ReadFault::NoMemory) => return Status::NoMemory,
+    };
+    let spans = match statements(alloc, &script) {
+        Ok(spans) => spans,
+        Err(_) => return Status::NoMemory,
+    };
+    match put_lines(alloc, &script, spans.as_slice(), sink) {
+        Ok(()) => Status::Done,
+        Err(Cut::NoMemory) => Status::NoMemory,
+        Err(Cut::WriteFault) => Status::WriteFault,
+    }
+}
+
+/// The statements of a script.
+fn statements(alloc: Global, script: &[u8]) -> Result<Spans, NoMemory>
+    requires short { length script.now < 2 ^ 32 }
+    ensures { IfOk result (λ spans. spans ≡ statements_in (pieces_of script.now)) }
+{
+    let mut statements = Listing::empty(alloc);
+    let mut at = 0;
+    'pieces: loop {
+        let piece = split(script, at);
+        match piece {
+            Piece::Header(_, _) => {}
+            Piece::Statement(from, to) => statements.push((from, to))?,
+            Piece::Quit(_, _) => {}
+            Piece::End => return Ok(statements),
+        }
+        at = resume(script, piece);
+    }
+}
+
+/// Writes the line of each of these statements of the script.
+fn put_lines<K: Sink>(alloc: Global, script: &[u8], spans: &[Span], sink: &mut K) -> Result<(), Cut>
+    ensures ok { OnOk result (Printed (map (text_in script.now) spans.now) (K.written sink.old) (K.written sink.new)) }
+    ensures part { OnErr result (PrintedPart (map (text_in script.now) spans.now) (K.written sink.old) (K.written sink.new)) }
+    ensures cause { result ≡ Err cuts.WriteFault → Rose (K.faults sink.old) (K.faults sink.new) }
+{
+    for span in spans {
+        match put_line(alloc, part(script, *span), sink) {
+            Ok(()) => {}
+            Err(cut) => return Err(cut),
+        }
+    }
+    Ok(())
+}
+
+/// What stands between two offsets of the script; offsets past its end are those of the end.
+fn part(script: &[u8], span: Span) -> &[u8]
+    ensures { result.now ≡ text_in script.now span }
+{
+    let to = (span.1 as usize).min(script.len());
+    let from = (span.0 as usize).min(to);
+    &script[from..to]
+}
+
+/// Writes the line of one statement.
+fn put_line<K: Sink>(alloc: Global, text: &[u8], sink: &mut K) -> Result<(), Cut>
+    ensures ok { OnOk result (IsPut text.now (K.written sink.old) (K.written sink.new)) }
+    ensures part { OnErr result (IsPutPart text.now (K.written sink.old) (K.written sink.new)) }
+    ensures cause { result ≡ Err cuts.WriteFault → Rose (K.faults sink.old) (K.faults sink.new) }
+    ensures later { K.faults sink.old ≤ K.faults sink.new }
+{
+    match printed(alloc, text) {
+        Ok(line) => match put_all(sink, line.as_str().as_bytes()) {
+            Ok(()) => Ok(()),
+            Err(_) => Err(Cut::WriteFault),
+        },
+        Err(_) => Err(Cut::NoMemory),
+    }
+}
+
+/// The line of one statement, with its end.
+fn printed(alloc: Global, text: &[u8]) -> Result<String, NoMemory>
+    ensures { IfOk result (λ s. IsPrinted text.now (string_bytes s)) }
+{
+    let line = line_of(alloc, text)?.text(alloc)?;
+    let mut out = String::from_str(alloc, line.as_str())?;
+    out.push_str("\n")?;
+    Ok(out)
+}
