@@ -160,7 +160,7 @@ fn limits_hold(alloc: Global) -> Result<[bool; 8], NoMemory> {
         )?,
         closes(alloc, around(alloc, QUERY, " ", 4_083, "T;")?, syntax)?,
         // A byte that is no text.
-        closes(alloc, no_text, "1 - DONE\n- - REFUSED 1 SYNTAX 29\n")?,
+        closes(alloc, no_text, "1 - DONE\n- - REFUSED 1 SYNTAX 28\n")?,
         // A text of 4,096 bytes or less whose canonical text is longer.
         closes(alloc, around(alloc, INSERT, ",('a')", 650, ";")?, syntax)?,
         // 64 tables and 65.
