@@ -14,8 +14,8 @@ use Rattle.lb_tok.specs.Spelled.{IsSpoken}
 use Rattle.lb_tok.specs.Syntax.{Reads, GoesWrong, IsBeyond}
 use Rattle.lb_tok.proofs.Spoken.{canonical_lexes, canonical_is_spelled}
 use Rattle.lb_tok.proofs.Texts.{one_lexing}
-use Rattle.lb_reade.proofs.Joined.{walk-append}
-use Rattle.lb_reade.proofs.Conditions.{nil}
+use Rattle.lb_readt.proofs.Joined.{walk-append}
+use Rattle.lb_readt.proofs.Languages.{nil}
 use Rattle.lb_read.proofs.Texts.{not_utf8}
 
 -- what is read is spoken

@@ -7,7 +7,7 @@ use Rattle.lb_tok.specs.declared.lex.ReadFault.{ReadFault}
 use Rattle.lb_tok.specs.Form.{Lang}
 use Rattle.lb_tok.specs.Changes.{IsStmt}
 use Rattle.lb_tok.specs.Refusals.{IsRead, FaultSays}
-use Rattle.lb_reade.specs.Readers.{heads}
+use Rattle.lb_readt.specs.Readers.{heads}
 use Rattle.lb_readd.specs.Choosing.{definers, Decides}
 
 pub all_read : (b : Bool) (P : Lang Stmt) (found : Tokens) (r : Result Stmt ReadFault) → Decides b P → heads definers found.tokens ≡ b → IfOk r (λ s. IsRead P 64 found s) → IfOk r (λ s. IsRead IsStmt 64 found s)

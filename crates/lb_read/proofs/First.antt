@@ -3,7 +3,7 @@ use Rattle.std.proofs.Common.{Bool, true, false, cond, ◌||◌, ◌≡◌, List
 use Rattle.lb_tok.specs.declared.kind.Kind.TheVariants as kinds
 use Rattle.lb_tok.specs.declared.token.Token.{Token}
 use Rattle.lb_tok.specs.Kinds.{has, only}
-use Rattle.lb_reade.specs.Readers.{heads}
+use Rattle.lb_readt.specs.Readers.{heads}
 use Rattle.lb_readd.specs.Choosing.{definers}
 
 or5 : (a b c d e : Bool) → cond a true (cond b true (cond c true (cond d true (cond e true false)))) ≡ ((cond a true false) || (cond b true false) || (cond c true false) || (cond d true false) || (cond e true false))

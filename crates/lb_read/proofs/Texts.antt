@@ -15,8 +15,8 @@ use Rattle.lb_tok.specs.Limit.{passed, walk_on, walk}
 use Rattle.lb_tok.specs.Refusals.{Spells, TooDeep, StandsAt, GoesNoFurther, IsRefusedAt, IsRead}
 use Rattle.lb_tok.specs.Syntax.{Reads, GoesWrong}
 use Rattle.lb_tok.proofs.Texts.{SameLexing, one_lexing}
-use Rattle.lb_reade.proofs.Joined.{walk-append}
-use Rattle.lb_reade.proofs.Conditions.{nil}
+use Rattle.lb_readt.proofs.Joined.{walk-append}
+use Rattle.lb_readt.proofs.Languages.{nil}
 
 -- ---- one text, one lexing
 

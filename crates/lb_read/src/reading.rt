@@ -3,13 +3,13 @@ ghost use Rattle.std.specs.Prelude.{◌≡◌, length, IfOk, IfErr};
 ghost use Rattle.lb_tok.specs.Changes.{IsStmt};
 ghost use Rattle.lb_tok.specs.Refusals.{IsRead, FaultSays};
 ghost use Rattle.lb_tok.specs.Syntax.{Reads, FailsSo};
-ghost use Rattle.lb_reade.specs.Readers.{heads};
+ghost use Rattle.lb_readt.specs.Readers.{heads};
 ghost use Rattle.lb_readd.specs.Choosing.{definers};
 
 use lb_base::Stmt;
 use lb_readd::definition;
-use lb_reade::next_is;
 use lb_readq::query;
+use lb_readt::next_is;
 use lb_tok::{Kind, ReadFault, Token, Tokens, tokens};
 use std::alloc::Global;
 

@@ -16,12 +16,12 @@ use Rattle.lb_tok.specs.Form.{Below, Lang, Nothing, One, Seq, Either, Word, Afte
 use Rattle.lb_tok.specs.Grammar.{IsName}
 use Rattle.lb_tok.specs.Changes.{AfterNamed, IsPlainType, IsActivation, IsAdded, IsAlteredColumn, IsActs, IsAlterTable}
 use Rattle.lb_reade.specs.Expressions.{Readers}
-use Rattle.lb_reade.proofs.Sets.{subset, within}
-use Rattle.lb_reade.proofs.Joined.{Within}
-use Rattle.lb_reade.proofs.Combined.{Reads, one_reads, give_reads, then_reads, same_reads, pick_reads, wide, made_reads, after_reads, means_reads, optional_reads}
-use Rattle.lb_reade.proofs.Inner.{name_token}
-use Rattle.lb_reade.proofs.Expressions.{Ready, name_reads}
-use Rattle.lb_reade.proofs.Conditions.{nil, made_of}
+use Rattle.lb_readt.proofs.Sets.{subset, within}
+use Rattle.lb_readt.proofs.Joined.{Within}
+use Rattle.lb_readt.proofs.Combined.{Reads, one_reads, give_reads, then_reads, same_reads, pick_reads, wide, made_reads, after_reads, means_reads, optional_reads}
+use Rattle.lb_readt.proofs.Tokens.{name_token, name_reads}
+use Rattle.lb_reade.proofs.Expressions.{Ready}
+use Rattle.lb_readt.proofs.Languages.{nil, made_of}
 use Rattle.lb_readd.specs.Defining.{plain_types, activates_at, control_of_at, activation_at, in_activation, acts_at, new_column_on, type_of, type_word_at, typed_on, type_word_on, other_name_at, behind_column_at, add_policy_at, added_on, added_at, secure_at, unsecure_at, altered_on, altered_word_on, altered_column_on, altered_column_at, table_change_on, alter_table_at}
 use Rattle.lb_readg.proofs.Names.{Ahead2, Chosen, Chosen2, keyword_token, named_reads, ahead_reads, ahead2_reads, to_may, of_may}
 use Rattle.lb_readd.proofs.Tables.{Width, width_reads, plain_type_reads}

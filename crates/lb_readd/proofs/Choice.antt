@@ -9,11 +9,11 @@ use Rattle.lb_tok.specs.Kinds.{Kinds}
 use Rattle.lb_tok.specs.Form.{Lang}
 use Rattle.lb_tok.specs.Grammar.{IsQueryOrWrite}
 use Rattle.lb_tok.specs.Changes.{IsDefinition, IsStmt, IsStatement}
-use Rattle.lb_reade.specs.Readers.{heads}
+use Rattle.lb_readt.specs.Readers.{heads}
 use Rattle.lb_tok.specs.Refusals.{Spells, GoesNoFurther, FaultSays}
-use Rattle.lb_reade.proofs.Sets.{disjoint, apart}
-use Rattle.lb_reade.proofs.Joined.{heads_alike}
-use Rattle.lb_reade.proofs.Conditions.{nil}
+use Rattle.lb_readt.proofs.Sets.{disjoint, apart}
+use Rattle.lb_readt.proofs.Joined.{heads_alike}
+use Rattle.lb_readt.proofs.Languages.{nil}
 use Rattle.lb_readq.proofs.Whole.{starts}
 use Rattle.lb_readq.proofs.Writes as writes
 use Rattle.lb_readd.specs.Choosing.{definers, BeginsWith, AreApart, AreAll, Decides}

@@ -9,11 +9,12 @@ use Rattle.lb_tok.specs.declared.token.Token.{Token}
 use Rattle.lb_tok.specs.Kinds.{Kinds}
 use Rattle.lb_tok.specs.Form.{Lang}
 use Rattle.lb_tok.specs.Grammar.{level}
-use Rattle.lb_reade.specs.Readers.{Answer, got, stop, Reader, bind, seq, give, word, after, means}
-use Rattle.lb_reade.specs.Expressions.{Readers, name_at, cond_at, case_at}
+use Rattle.lb_readt.specs.Readers.{Answer, got, stop, Reader, bind, seq, give, word, after, means}
+use Rattle.lb_readt.specs.Tokens.{name_at}
+use Rattle.lb_reade.specs.Expressions.{Readers, cond_at, case_at}
 use Rattle.lb_readq.specs.Queries.{tab_at}
-use Rattle.lb_reade.proofs.Joined.{SoundAt, Meets, via}
-use Rattle.lb_reade.proofs.Combined.{Reads}
+use Rattle.lb_readt.proofs.Joined.{SoundAt, Meets, via}
+use Rattle.lb_readt.proofs.Combined.{Reads}
 use Rattle.lb_readd.specs.Defining.{controlled_at, rows_at, masked_at}
 
 -- what holds of a reader holds of one that answers the same

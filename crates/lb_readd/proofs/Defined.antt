@@ -9,8 +9,9 @@ use Rattle.lb_tok.specs.Form.{Lang, Either, After}
 use Rattle.lb_tok.specs.Changes.{IsCreateLabel, IsCreatePolicy, IsCreate, IsAlter, IsDrop, IsChange, IsDefinition}
 use Rattle.lb_reade.specs.Expressions.{Readers}
 use Rattle.lb_readq.specs.Queries.{readers}
-use Rattle.lb_reade.proofs.Combined.{Reads, then_reads, pick_reads, wide, made_reads, after_reads}
-use Rattle.lb_reade.proofs.Expressions.{Ready, name_reads}
+use Rattle.lb_readt.proofs.Combined.{Reads, then_reads, pick_reads, wide, made_reads, after_reads}
+use Rattle.lb_readt.proofs.Tokens.{name_reads}
+use Rattle.lb_reade.proofs.Expressions.{Ready}
 use Rattle.lb_readq.proofs.Queries.{ready}
 use Rattle.lb_readq.proofs.Whole.{Whole'}
 use Rattle.lb_readd.specs.Defining.{create_secured_at, create_at, switched_permission_at, switched_mask_at, alter_at, dropped_secured_at, drop_at, change_at, definition_at}

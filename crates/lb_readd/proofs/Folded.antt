@@ -2,10 +2,10 @@
 use Rattle.std.proofs.Common.{true, false, ◌≡◌, ℕ, suc, ◌-◌, ◌+◌, ◌≤◌, ◌<◌, List, [], ◌∷◌, length, refl, sym, ap, ◌∙◌, arith}
 use Rattle.lb_tok.specs.declared.token.Token.{Token}
 use Rattle.lb_tok.specs.Kinds.{Kinds}
-use Rattle.lb_reade.specs.declared.fault.Fault.{Fault}
-use Rattle.lb_reade.specs.declared.fault.Fault.TheVariants.{Memory, Bad, Deep}
-use Rattle.lb_reade.specs.Readers.{bad, deep, Answer, got, stop, Reader, bind, give, heads, turns, many}
-use Rattle.lb_reade.specs.Answering.{Faults}
+use Rattle.lb_readt.specs.declared.fault.Fault.{Fault}
+use Rattle.lb_readt.specs.declared.fault.Fault.TheVariants.{Memory, Bad, Deep}
+use Rattle.lb_readt.specs.Readers.{bad, deep, Answer, got, stop, Reader, bind, give, heads, turns, many}
+use Rattle.lb_readt.specs.Answering.{Faults}
 
 -- the value of what is still read
 abbrev pub with_value : {A B : Type 0} → (List A → B) → Answer (List A) → Answer B

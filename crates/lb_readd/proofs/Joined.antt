@@ -8,10 +8,10 @@ use Rattle.lb_tok.specs.Kinds.{only}
 use Rattle.lb_tok.specs.Form.{Below, Lang, Seq, Either, Many, Word, After, Made, Listed}
 use Rattle.lb_tok.specs.Grammar.{IsName, IsText}
 use Rattle.lb_tok.specs.Changes.{IsTexts, IsPart}
-use Rattle.lb_reade.proofs.Joined.{Within}
-use Rattle.lb_reade.proofs.Combined.{Reads, then_reads, same_reads, pick_reads, wide, made_reads, after_reads, commas_reads}
-use Rattle.lb_reade.proofs.Expressions.{name_reads, text_reads}
-use Rattle.lb_reade.proofs.Conditions.{nil, made_is, made_of}
+use Rattle.lb_readt.proofs.Joined.{Within}
+use Rattle.lb_readt.proofs.Combined.{Reads, then_reads, same_reads, pick_reads, wide, made_reads, after_reads, commas_reads}
+use Rattle.lb_readt.proofs.Tokens.{name_reads, text_reads}
+use Rattle.lb_readt.proofs.Languages.{nil, made_is, made_of}
 use Rattle.lb_readd.specs.Defining.{Next, part_at, piece_at, parts_from, parts_on, parts_at}
 
 -- COMPONENT name text

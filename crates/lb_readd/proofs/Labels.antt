@@ -12,12 +12,15 @@ use Rattle.lb_tok.specs.Form.{Lang, Nothing, Seq, Either, Made, Listed}
 use Rattle.lb_tok.specs.Grammar.{IsName}
 use Rattle.lb_tok.specs.Changes.{IsSwitch, IsFirstSwitch, IsReplace, IsPermission, IsMask, IsTexts, IsTreeElement, IsTree, IsComponentDef, IsPart, IsCreateLabel, IsWriteOption, IsCreatePolicy, IsDropLabel}
 use Rattle.lb_tok.specs.declared.token.Token.{Token}
-use Rattle.lb_reade.specs.Readers.{Reader, seq, after, made}
-use Rattle.lb_reade.specs.Expressions.{Readers, name_at, cond_at, case_at}
+use Rattle.lb_readt.specs.Readers.{Reader, seq, after, made}
+use Rattle.lb_readt.specs.Tokens.{name_at}
+use Rattle.lb_reade.specs.Expressions.{Readers, cond_at, case_at}
 use Rattle.lb_readq.specs.Queries.{tab_at}
-use Rattle.lb_reade.proofs.Joined.{Within}
-use Rattle.lb_reade.proofs.Combined.{Reads, give_reads, then_reads, same_reads, pick_reads, wide, made_reads, after_reads, means_reads, commas_reads, listed_reads}
-use Rattle.lb_reade.proofs.Expressions.{Ready, parens_reads, name_reads, text_reads, case_reads, assoc, unassoc}
+use Rattle.lb_readt.proofs.Joined.{Within}
+use Rattle.lb_readt.proofs.Combined.{Reads, give_reads, then_reads, same_reads, pick_reads, wide, made_reads, after_reads, means_reads, commas_reads, listed_reads}
+use Rattle.lb_readt.proofs.Languages.{assoc, unassoc}
+use Rattle.lb_readt.proofs.Tokens.{name_reads, text_reads}
+use Rattle.lb_reade.proofs.Expressions.{Ready, parens_reads, case_reads}
 use Rattle.lb_reade.proofs.Conditions.{cond_reads}
 use Rattle.lb_readq.proofs.Queries.{tab_reads}
 use Rattle.lb_readd.specs.Defining.{switch_at, first_switch_at, replace_at, permission_at, mask_at, control_at, texts_at, tree_element_at, tree_at, component_at, create_component_at, new_label_on, create_label_on, create_label_at, which_option_at, write_option_at, create_policy_at, dropped_label_on, drop_label_on, drop_label_at}

@@ -1,6 +1,6 @@
 -- What stands in the bracket of CREATE TABLE.
 use Rattle.std.proofs.Common.{◌≡◌, ℕ, zero, suc, ◌-◌, ◌<◌, sym, ap, arith}
-use Rattle.lb_reade.specs.Readers.{listed}
+use Rattle.lb_readt.specs.Readers.{listed}
 use Rattle.lb_readq.specs.Queries.{readers}
 use Rattle.lb_readd.specs.Defining.{element_at, in_table_at}
 

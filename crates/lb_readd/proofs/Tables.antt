@@ -13,14 +13,15 @@ use Rattle.lb_tok.specs.Kinds.{Kinds, only, names, has}
 use Rattle.lb_tok.specs.Form.{Lang, Nothing, Seq, Either, Many, After, Made, Optional, Listed, Parens}
 use Rattle.lb_tok.specs.Grammar.{level, IsName, IsInt}
 use Rattle.lb_tok.specs.Changes.{any_is, column_def, IsPlainType, IsType, IsOption, IsSecured, IsElement, IsCreateTable}
-use Rattle.lb_reade.specs.Readers.{listed}
+use Rattle.lb_readt.specs.Readers.{listed}
 use Rattle.lb_reade.specs.Expressions.{Readers, parens}
 use Rattle.lb_readq.specs.Queries.{readers}
-use Rattle.lb_reade.proofs.Joined.{Tongue, Within}
-use Rattle.lb_reade.proofs.Repeats.{bracket_exact, bracket_tongue, Inside}
-use Rattle.lb_reade.proofs.Combined.{Reads, plain_token, give_reads, then_reads, same_reads, pick_reads, many_reads, wide, made_reads, after_reads, means_reads, may_reads, optional_reads, listed_reads}
-use Rattle.lb_reade.proofs.Expressions.{Ready, parens_reads, name_reads, int_reads}
-use Rattle.lb_reade.proofs.Conditions.{nil, made_is, made_of}
+use Rattle.lb_readt.proofs.Joined.{Tongue, Within}
+use Rattle.lb_readt.proofs.Repeats.{bracket_exact, bracket_tongue, Inside}
+use Rattle.lb_readt.proofs.Combined.{Reads, plain_token, give_reads, then_reads, same_reads, pick_reads, many_reads, wide, made_reads, after_reads, means_reads, may_reads, optional_reads, listed_reads}
+use Rattle.lb_readt.proofs.Tokens.{name_reads, int_reads}
+use Rattle.lb_reade.proofs.Expressions.{Ready, parens_reads}
+use Rattle.lb_readt.proofs.Languages.{nil, made_is, made_of}
 use Rattle.lb_readq.proofs.Queries.{ready}
 use Rattle.lb_readd.specs.Defining.{plain_types, width_at, plain_type_at, type_at, option_at, in_option, written, options_at, secured_at, column_of, in_either, column_on, key_at, element_on, element_at, in_table_at, table_policy_at, create_table_at}
 use Rattle.lb_readg.proofs.Names.{Chosen, ahead_reads}

@@ -8,7 +8,7 @@ use Rattle.lb_tok.specs.declared.lex.ReadFault.{ReadFault}
 use Rattle.lb_tok.specs.Kinds.{Kinds, only}
 use Rattle.lb_tok.specs.Form.{Lang}
 use Rattle.lb_tok.specs.Changes.{IsStmt, IsStatement}
-use Rattle.lb_reade.specs.Readers.{heads}
+use Rattle.lb_readt.specs.Readers.{heads}
 use Rattle.lb_tok.specs.Refusals.{Spells, IsRead, FaultSays}
 
 -- what begins a definition

@@ -31,8 +31,9 @@ use Rattle.lb_tok.specs.declared.kind.Kind.TheVariants as kinds
 use Rattle.lb_tok.specs.Kinds.{Kinds, only, from_to, names, has}
 use Rattle.lb_tok.specs.Words.{name_in}
 use Rattle.lb_tok.specs.Changes.{any_is}
-use Rattle.lb_reade.specs.Readers.{stop, deep, Reader, seq, give, one, pick, many, after, made, means, may, optional, commas, listed}
-use Rattle.lb_reade.specs.Expressions.{Readers, parens, choose, name_at, text_at, int_at, cond_at, case_at}
+use Rattle.lb_readt.specs.Readers.{stop, deep, Reader, seq, give, one, pick, many, after, made, means, may, optional, commas, listed, choose}
+use Rattle.lb_readt.specs.Tokens.{name_at, text_at, int_at}
+use Rattle.lb_reade.specs.Expressions.{Readers, parens, cond_at, case_at}
 use Rattle.lb_readq.specs.Queries.{tab_at, readers, ended}
 use Rattle.lb_readg.specs.Granting.{marked, name_or, named_at, label_on, grant_at, revoke_at}
 

@@ -1,16 +1,16 @@
 // ALTER TABLE.
 ghost use Rattle.std.specs.Prelude.{◌≡◌, Some, None};
 ghost use Rattle.lb_tok.specs.declared.kind.Kind.TheVariants as kinds;
-ghost use Rattle.lb_reade.specs.Readers.{after};
-ghost use Rattle.lb_reade.specs.Answering.{Gives};
+ghost use Rattle.lb_readt.specs.Readers.{after};
+ghost use Rattle.lb_readt.specs.Answering.{Gives};
 ghost use Rattle.lb_readq.specs.Queries.{readers};
 ghost use Rattle.lb_readd.specs.Defining.{activates_at, control_of_at, activation_at, acts_at, new_column_on, typed_on, type_word_on, behind_column_at, add_policy_at, added_on, added_at, secure_at, unsecure_at, altered_on, altered_word_on, altered_column_on, altered_column_at, table_change_on, alter_table_at};
 
 use crate::table::{plain_type, width};
 use crate::types::{next_is_plain_type, other_name, type_word};
 use lb_base::{Activation, Change, ControlOf, Name, PlainType};
-use lb_reade::{Read, name, next_is, next_is_either, take};
 use lb_readg::{means, name_or, name_or_either, named};
+use lb_readt::{Read, name, next_is, next_is_either, take};
 use lb_tok::{Kind, Token};
 
 // ACTIVATE | DEACTIVATE, and whether it is the first

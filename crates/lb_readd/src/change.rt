@@ -1,10 +1,10 @@
 // Whole definitions.
 ghost use Rattle.std.specs.Prelude.{◌≡◌, []};
-ghost use Rattle.lb_reade.specs.Answering.{Gives};
+ghost use Rattle.lb_readt.specs.Answering.{Gives};
 ghost use Rattle.lb_base.specs.declared.change.Change.TheVariants as changes;
 ghost use Rattle.lb_tok.specs.declared.kind.Kind.TheVariants as kinds;
-ghost use Rattle.lb_reade.specs.Readers.{seq, after, made};
-ghost use Rattle.lb_reade.specs.Expressions.{name_at};
+ghost use Rattle.lb_readt.specs.Readers.{seq, after, made};
+ghost use Rattle.lb_readt.specs.Tokens.{name_at};
 ghost use Rattle.lb_readq.specs.Queries.{readers};
 ghost use Rattle.lb_readg.specs.Granting.{grant_at, revoke_at};
 ghost use Rattle.lb_readd.specs.Defining.{replace_at, control_at, create_secured_at, create_at, switched_permission_at, switched_mask_at, alter_at, dropped_secured_at, drop_at, change_at, definition_at, whole_at};
@@ -14,9 +14,9 @@ use crate::control::{control, replace, switch};
 use crate::label::{create_label, create_policy, drop_label};
 use crate::table::create_table;
 use lb_base::{Change, Stmt};
-use lb_reade::{Fault, Read, name, next_is, take};
 use lb_readg::{granted, revoked};
 use lb_readq::{MOST_BRACKETS, at_end};
+use lb_readt::{Fault, Read, name, next_is, take};
 use lb_tok::{Kind, Token};
 use std::alloc::Global;
 

@@ -1,13 +1,13 @@
 // Permissions and masks.
 ghost use Rattle.std.specs.Prelude.{◌≡◌};
-ghost use Rattle.lb_reade.specs.Answering.{Gives};
+ghost use Rattle.lb_readt.specs.Answering.{Gives};
 ghost use Rattle.lb_readq.specs.Queries.{readers};
 ghost use Rattle.lb_readd.specs.Defining.{switch_at, first_switch_at, replace_at, controlled_at, rows_at, masked_at, permission_at, mask_at, control_at};
 
 use lb_base::{Change, Cond, Expr, MaskDef, Name, PermissionDef, Switch, Tab};
-use lb_reade::{Read, name, next_is, next_is_either, take};
 use lb_readg::means;
 use lb_readq::{case, cond, tab};
+use lb_readt::{Read, name, next_is, next_is_either, take};
 use lb_tok::{Kind, Token};
 use std::alloc::Global;
 

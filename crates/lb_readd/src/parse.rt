@@ -5,8 +5,8 @@ ghost use Rattle.lb_tok.specs.Refusals.{IsRead, FaultSays};
 
 use crate::change::whole;
 use lb_base::Stmt;
-use lb_reade::Fault;
 use lb_readq::{offset, unless_cut};
+use lb_readt::Fault;
 use lb_tok::{ReadFault, Tokens};
 use std::alloc::Global;
 

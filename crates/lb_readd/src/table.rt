@@ -2,15 +2,15 @@
 ghost use Rattle.std.specs.Prelude.{◌≡◌, ◌<◌, ◌∷◌, [], ◌++◌, ◌||◌, not, Some, None};
 ghost use Rattle.lb_tok.specs.Kinds.{only};
 ghost use Rattle.lb_tok.specs.declared.kind.Kind.TheVariants as kinds;
-ghost use Rattle.lb_reade.specs.Readers.{heads, commas};
-ghost use Rattle.lb_reade.specs.Answering.{Gives};
+ghost use Rattle.lb_readt.specs.Readers.{heads, commas};
+ghost use Rattle.lb_readt.specs.Answering.{Gives};
 ghost use Rattle.lb_readq.specs.Queries.{readers};
 ghost use Rattle.lb_readd.specs.Defining.{width_at, plain_type_at, type_at, option_at, options_at, secured_at, column_on, key_at, element_at, in_table_at, table_policy_at, create_table_at};
 
 use lb_base::{Change, ColumnDef, ColumnType, Element, Name, PlainType};
-use lb_reade::{Read, int, name, next_is, next_is_either, noise, take, with_first};
 use lb_readg::{means, name_or};
 use lb_readq::open;
+use lb_readt::{Read, int, name, next_is, next_is_either, noise, take, with_first};
 use lb_tok::{Kind, Token};
 use sqlite_items::Items;
 use std::alloc::Global;

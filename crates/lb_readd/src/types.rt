@@ -2,12 +2,12 @@
 ghost use Rattle.std.specs.Prelude.{◌≡◌, ◌++◌};
 ghost use Rattle.lb_tok.specs.Kinds.{from_to, has};
 ghost use Rattle.lb_tok.specs.declared.kind.Kind.TheVariants as kinds;
-ghost use Rattle.lb_reade.specs.Readers.{heads};
-ghost use Rattle.lb_reade.specs.Answering.{Gives};
+ghost use Rattle.lb_readt.specs.Readers.{heads};
+ghost use Rattle.lb_readt.specs.Answering.{Gives};
 ghost use Rattle.lb_readd.specs.Defining.{plain_types, type_of, type_word_at, other_name_at};
 
 use lb_base::{Name, PlainType};
-use lb_reade::{Fault, Read};
+use lb_readt::{Fault, Read};
 use lb_tok::{Content, Kind, Token};
 
 /// Whether the next token begins a type that is no label's.

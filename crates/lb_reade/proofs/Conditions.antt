@@ -1,22 +1,23 @@
 -- Conditions, and what stands in a bracket at a condition's head.
-use Rattle.std.proofs.Common.{Bool, true, false, inl, inr, ◌≡◌, ℕ, List, [], ◌∷◌, ◌++◌, refl, sym, ap, subst, ◌∙◌}
+use Rattle.std.proofs.Common.{Bool, true, false, inl, inr, ◌≡◌, ℕ, List, [], ◌++◌, refl, sym, subst}
 use Rattle.lb_base.specs.declared.query.Expr.{Expr}
 use Rattle.lb_base.specs.declared.query.Cond.{Cond}
 use Rattle.lb_base.specs.declared.query.Cond.TheVariants as conds
 use Rattle.lb_base.specs.declared.query.Query.{Query}
 use Rattle.lb_base.specs.declared.query.Comparison.{Comparison}
-use Rattle.lb_tok.specs.declared.kind.Kind.{Kind}
 use Rattle.lb_tok.specs.declared.kind.Kind.TheVariants as kinds
 use Rattle.lb_tok.specs.declared.token.Token.{Token}
 use Rattle.lb_tok.specs.Kinds.{Kinds, only}
-use Rattle.lb_tok.specs.Form.{Below, Lang, Nothing, Seq, Either, Many, After, Made, Bracket, Parens}
+use Rattle.lb_tok.specs.Form.{Below, Lang, Nothing, Seq, Either, Many, After, Made, Parens}
 use Rattle.lb_tok.specs.Grammar.{ands, ors, InExpr, InCond, InQuery, IsFact, IsExpr, IsNullTest, IsSet, IsRange, IsPred, IsPrim, IsNeg, IsConj, IsCond}
-use Rattle.lb_reade.specs.Readers.{Reader, seq}
+use Rattle.lb_readt.specs.Readers.{Reader, seq}
 use Rattle.lb_reade.specs.Expressions.{Mixed, Side, Readers, rest_at, null_test_at, set_at, range_at, side_at, compared_on, compared_at, pred_at, in_pred, may_pred, behind, exists_at, prim_with, prim_at, may_prim, neg_at, may_neg, and_on, conj_at, or_on, cond_at, mixed_on, mixed_at}
-use Rattle.lb_reade.proofs.Joined.{Within}
-use Rattle.lb_reade.proofs.Combined.{Reads, give_reads, then_reads, same_reads, pick_reads, many_reads, wide, made_reads, after_reads, means_reads, listed_reads}
+use Rattle.lb_readt.proofs.Joined.{Within}
+use Rattle.lb_readt.proofs.Combined.{Reads, give_reads, then_reads, same_reads, pick_reads, many_reads, wide, made_reads, after_reads, means_reads, listed_reads}
 use Rattle.lb_reade.proofs.Inner.{in_fact, in_cond, MixedOf, InMixed}
-use Rattle.lb_reade.proofs.Expressions.{after_expr, after_cond, after_query, Lower, Ready, parens_reads, comparison_reads, expr_reads, rest_reads, plain_reads, Plain, Rest, in_rest, assoc, unassoc, seq_map, to_parts, from_parts}
+use Rattle.lb_readt.proofs.Languages.{assoc, unassoc, seq_map, bracket_map, nil, made_is, made_of}
+use Rattle.lb_readt.proofs.Tokens.{comparison_reads}
+use Rattle.lb_reade.proofs.Expressions.{after_expr, after_cond, after_query, Lower, Ready, parens_reads, expr_reads, rest_reads, plain_reads, Plain, Rest, in_rest, to_parts, from_parts}
 
 -- what may go on behind a primary condition
 abbrev after_prim : Kinds
@@ -59,28 +60,6 @@ Compared e c = Either (Seq (Parens SideOf) (ComparedOn e c)) (Seq Plain (λ x. M
 -- what may follow a comparison sign
 abbrev RightSide : Expr → Comparison → Lang Cond
 RightSide e c = Either (Made (conds.CompareQuery c e) (Parens InQuery)) (Made (conds.Compare c e) IsExpr)
-
--- brackets hold the same where their languages do
-pub bracket_map : {A B : Type 0} (o c : Kind) (P : Lang A) (Q : Lang B) (s : Below) (x : A) (y : B) → ((ts : List Token) → P s ts x → Q s ts y) → (ts : List Token) → Bracket o c P s ts x → Bracket o c Q s ts y
-bracket_map o c P Q s x y f ts p =
-    let q = p.4 in
-    let e = q.4 in
-    let n = e.4 in
-    (p.0, p.1, p.2, p.3, (q.0, q.1, y, f q.0 (subst (λ z. P s q.0 z) (sym n.1) q.3), (e.0, e.1, e.2, e.3, (n.0, refl), e.5), q.5), p.5)
-
-pub nil : (a : List Token) → a ++ [] ≡ a
-nil [] = refl
-nil (t ∷ a) = ap (λ (u : List Token). t ∷ u) (nil a)
-
-pub ends : (ts a b : List Token) → ts ≡ a ++ b → b ≡ [] → a ≡ ts
-ends ts a b e h = sym (e ∙ ap (λ (u : List Token). a ++ u) h ∙ nil a)
-
--- made of the same value
-pub made_is : {A B : Type 0} (f : A → B) (P : Lang A) (s : Below) (ts : List Token) (x : A) → P s ts x → Made f P s ts (f x)
-made_is f P s ts x p = (ts, [], x, p, (refl, refl), sym (nil ts))
-
-pub made_of : {A B : Type 0} (f : A → B) (P : Lang A) (s : Below) (ts : List Token) (y : B) → Made f P s ts y → (x : A) × P s ts x × (y ≡ f x)
-made_of f P s ts y p = (p.2, subst (λ (u : List Token). P s u p.2) (ends ts p.0 p.1 p.5 p.4.0) p.3, p.4.1)
 
 -- an expression and what follows, from its first fact on
 pub to_exprs : {M : Type 0} (Last : Expr → Lang M) → Within (Seq IsFact (λ x. Seq (Rest x) Last)) (Seq IsExpr Last)

@@ -1,5 +1,5 @@
 -- Expressions.
-use Rattle.std.proofs.Common.{Bool, true, false, inl, inr, ◌≡◌, ℕ, zero, suc, List, [], ◌∷◌, ◌++◌, Option, Some, None, refl, sym, ap, subst, ◌∙◌, append_assoc, codes}
+use Rattle.std.proofs.Common.{Bool, true, false, inl, inr, ◌≡◌, ℕ, zero, suc, List, [], ◌∷◌, ◌++◌, Option, Some, None, refl, sym, ap, subst, ◌∙◌}
 use Rattle.std.specs.Option.{option_and_then}
 use Rattle.lb_base.specs.declared.query.Expr.{Expr}
 use Rattle.lb_base.specs.declared.query.Expr.TheVariants as exprs
@@ -11,19 +11,19 @@ use Rattle.lb_tok.specs.declared.call.Call.{Call}
 use Rattle.lb_tok.specs.declared.call.Call.TheVariants as calls
 use Rattle.lb_tok.specs.declared.token.Token.{Token}
 use Rattle.lb_tok.specs.declared.token.Content.{Content}
-use Rattle.lb_tok.specs.declared.token.Content.TheVariants as contents
 use Rattle.lb_tok.specs.Kinds.{Kinds, only, from_to, names, has}
-use Rattle.lb_tok.specs.Words.{name_in, word_in, call_of, comparison_of, is_date}
-use Rattle.lb_base.specs.Days.{day_of}
+use Rattle.lb_tok.specs.Words.{name_in, word_in, call_of, is_date}
 use Rattle.lb_tok.specs.Form.{Lang, Nothing, One, Seq, Either, Many, After, Made, Optional, Parens}
-use Rattle.lb_tok.specs.Grammar.{level, IsName, IsText, IsInt, IsNegative, IsCount, IsDay, sums, concats, products, InExpr, InCond, InQuery, alone, of_table, a_column, IsColumn, IsArm, IsChoice, IsElse, IsArms, IsChoices, IsCase, IsCounted, IsParted, IsFirstOf, IsVerified, IsTwoTexts, IsNumber, IsToday, IsShown, IsArguments, IsCall, IsLiteral, IsFact, IsTerm, IsConcat, IsSign, IsSigned, IsExpr, IsComparison}
-use Rattle.lb_reade.specs.Readers.{Reader, give, pick}
-use Rattle.lb_reade.specs.Expressions.{Readers, parens, name_at, text_at, int_at, negative_at, count_at, day_at, word_at, comparison_at, column_on, column_at, arm_at, choice_at, else_at, arms_at, choices_at, in_case_at, case_at, counted_at, parted_at, first_of_at, last_part_at, verified_texts_at, two_texts_at, in_arguments_at, number_at, today_at, shown_at, date_at, arguments_at, begins_arguments, called_at, named_on, named_at, literal_at, plain_at, fact_at, product_on, term_at, concat_on, concat_at, sign_at, signed_at, sum_on, expr_at, rest_at}
-use Rattle.lb_reade.proofs.Sets.{disjoint, has_only}
-use Rattle.lb_reade.proofs.Joined.{Within}
-use Rattle.lb_reade.proofs.Repeats.{bracket_exact, bracket_tongue, Inside}
-use Rattle.lb_reade.proofs.Combined.{Reads, plain_token, one_reads, give_reads, then_reads, same_reads, pick_reads, many_reads, wide, made_reads, after_reads, means_reads, optional_reads, listed_reads}
-use Rattle.lb_reade.proofs.Inner.{in_literal, in_fact, in_cond, InMixed, name_token, expr_tongue, cond_tongue, mixed_tongue, query_tongue}
+use Rattle.lb_tok.specs.Grammar.{level, IsName, IsDay, sums, concats, products, InExpr, InCond, InQuery, alone, of_table, a_column, IsColumn, IsArm, IsChoice, IsElse, IsArms, IsChoices, IsCase, IsCounted, IsParted, IsFirstOf, IsVerified, IsTwoTexts, IsNumber, IsToday, IsShown, IsArguments, IsCall, IsLiteral, IsFact, IsTerm, IsConcat, IsSign, IsSigned, IsExpr}
+use Rattle.lb_readt.specs.Readers.{Reader, give, pick}
+use Rattle.lb_reade.specs.Expressions.{Readers, parens, arm_at, choice_at, else_at, arms_at, choices_at, in_case_at, case_at, counted_at, parted_at, first_of_at, last_part_at, verified_texts_at, two_texts_at, in_arguments_at, number_at, today_at, shown_at, date_at, arguments_at, begins_arguments, called_at, named_on, named_at, literal_at, plain_at, fact_at, product_on, term_at, concat_on, concat_at, sign_at, signed_at, sum_on, expr_at, rest_at}
+use Rattle.lb_readt.proofs.Sets.{disjoint}
+use Rattle.lb_readt.proofs.Joined.{Within}
+use Rattle.lb_readt.proofs.Repeats.{bracket_exact, bracket_tongue, Inside}
+use Rattle.lb_readt.proofs.Combined.{Reads, plain_token, give_reads, then_reads, same_reads, pick_reads, many_reads, wide, made_reads, after_reads, means_reads, optional_reads, listed_reads}
+use Rattle.lb_readt.proofs.Languages.{nil, assoc, unassoc}
+use Rattle.lb_readt.proofs.Tokens.{name_reads, text_reads, int_reads, negative_reads, day_reads, word_at_reads, column_reads}
+use Rattle.lb_reade.proofs.Inner.{in_literal, in_fact, in_cond, InMixed, expr_tongue, cond_tongue, mixed_tongue, query_tongue}
 
 -- what may go on behind a fact, an expression and a condition
 abbrev pub after_fact : Kinds
@@ -83,50 +83,7 @@ parens_reads {b} {d} {w} {A} {f} {P} {F} {D} r g h =
       exact = λ _. bracket_exact d w.room f F D kinds.Open kinds.Close (plain_token kinds.Open) (plain_token kinds.Close) refl refl refl refl refl h t (inside d w f P F D r.inner g);
     }
 
--- ---- single tokens
-
-pub name_reads : {b : Bool} {d : ℕ} → Reads b d name_at IsName false names []
-unfolding has
-name_reads = one_reads name_token refl refl refl
-
-abbrev text_token : Token
-text_token = record { kind = kinds.Text; content = contents.Text (codes "1970-01-01") }
-
-abbrev number_token : Token
-number_token = record { kind = kinds.Numeral; content = contents.Number 1 }
-
-pub text_reads : {b : Bool} {d : ℕ} → Reads b d text_at IsText false (only kinds.Text) []
-text_reads = one_reads text_token (has_only kinds.Text) refl refl
-
-pub int_reads : {b : Bool} {d : ℕ} → Reads b d int_at IsInt false (only kinds.Numeral) []
-int_reads = one_reads number_token (has_only kinds.Numeral) refl refl
-
-pub negative_reads : {b : Bool} {d : ℕ} → Reads b d negative_at IsNegative false (only kinds.Numeral) []
-negative_reads = one_reads number_token (has_only kinds.Numeral) refl refl
-
-pub count_reads : {b : Bool} {d : ℕ} → Reads b d count_at IsCount false (only kinds.Numeral) []
-count_reads = one_reads number_token (has_only kinds.Numeral) refl refl
-
-pub day_reads : {b : Bool} {d : ℕ} → Reads b d day_at IsDay false (only kinds.Text) []
-unfolding day_of
-day_reads = one_reads text_token (has_only kinds.Text) refl refl
-
-pub word_at_reads : {b : Bool} {d : ℕ} → Reads b d word_at (One names word_in) false names []
-unfolding has
-word_at_reads = one_reads name_token refl refl refl
-
-pub comparison_reads : {b : Bool} {d : ℕ} → Reads b d comparison_at IsComparison false (from_to kinds.Equal kinds.AtLeast) []
-unfolding has comparison_of
-comparison_reads = one_reads (plain_token kinds.Equal) refl refl refl
-
--- ---- columns and calls
-
-abbrev ColumnOn : List ℕ → Lang Column
-ColumnOn n = Either (After kinds.Dot (Made (of_table n) IsName)) (Nothing (alone n))
-
-pub column_reads : {b : Bool} {d : ℕ} → Reads b d column_at IsColumn false names (only kinds.Dot)
-unfolding column_at column_on
-column_reads = wide _ _ refl refl refl (then_reads name_reads (λ n. pick_reads (after_reads kinds.Dot refl (made_reads (of_table n) name_reads)) (give_reads (alone n)) refl) refl)
+-- ---- CASE and calls
 
 pub arm_reads : {b : Bool} {d : ℕ} {w : Readers} → Lower b d w → Reads b d (arm_at w) IsArm false (only kinds.When) after_expr
 unfolding arm_at
@@ -262,10 +219,6 @@ view_name (Some m) o p n e = let q : ◌≡◌ {A = Option Call × List ℕ} (o,
 view_call : (v : Option (Option Call × List ℕ)) (c : Call) → option_and_then {U = Call} (λ w. w.0) v ≡ Some c → (n : List ℕ) × (v ≡ Some (Some c, n))
 view_call None c e = absurd cc
 view_call (Some p) c e = (p.1, ap (λ (o : Option Call). Some (o, p.1)) e)
-
-nil : (a : List Token) → a ++ [] ≡ a
-nil [] = refl
-nil (t ∷ a) = ap (λ (u : List Token). t ∷ u) (nil a)
 
 pub to_named : Within Named IsNamed
 to_named s ts x p = go p.2 p.3 p.4
@@ -416,21 +369,6 @@ in_rest = only kinds.Star ++ only kinds.Bars ++ in_sum
 pub rest_reads : {b : Bool} {d : ℕ} {w : Readers} → Ready d w → (x : Expr) → Reads b d (rest_at w x) (Rest x) true in_rest after_expr
 unfolding rest_at
 rest_reads r x = wide _ _ refl refl refl (then_reads (product_reads r x) (λ t. then_reads (concat_on_reads r t) (sum_on_reads r) refl) refl)
-
--- languages rearranged
-
-pub assoc : {A B C : Type 0} (P : Lang A) (Q : A → Lang B) (R : B → Lang C) → Within (Seq (Seq P Q) R) (Seq P (λ x. Seq (Q x) R))
-assoc P Q R s ts z p =
-    let q = p.3 in
-    (q.0, q.1 ++ p.1, q.2, q.3, (q.1, p.1, p.2, q.4, p.4, refl), p.5 ∙ ap (λ (u : List Token). u ++ p.1) q.5 ∙ append_assoc q.0 q.1 p.1)
-
-pub unassoc : {A B C : Type 0} (P : Lang A) (Q : A → Lang B) (R : B → Lang C) → Within (Seq P (λ x. Seq (Q x) R)) (Seq (Seq P Q) R)
-unassoc P Q R s ts z p =
-    let q = p.4 in
-    (p.0 ++ q.0, q.1, q.2, (p.0, q.0, p.2, p.3, q.3, refl), q.4, p.5 ∙ ap (λ (u : List Token). p.0 ++ u) q.5 ∙ sym (append_assoc p.0 q.0 q.1))
-
-pub seq_map : {A B : Type 0} (P P' : Lang A) (Q Q' : A → Lang B) → Within P P' → ((x : A) → Within (Q x) (Q' x)) → Within (Seq P Q) (Seq P' Q')
-seq_map P P' Q Q' f g s ts y p = (p.0, p.1, p.2, f s p.0 p.2 p.3, g p.2 s p.1 y p.4, p.5)
 
 -- an expression is a fact and the rest
 pub to_parts : Within IsExpr (Seq IsFact Rest)

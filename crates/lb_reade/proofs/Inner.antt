@@ -13,15 +13,15 @@ use Rattle.lb_base.specs.declared.query.Tab.{Tab}
 use Rattle.lb_tok.specs.declared.kind.Kind.{Kind}
 use Rattle.lb_tok.specs.declared.kind.Kind.TheVariants as kinds
 use Rattle.lb_tok.specs.declared.token.Token.{Token}
-use Rattle.lb_tok.specs.declared.token.Content.TheVariants as contents
 use Rattle.lb_tok.specs.Kinds.{Kinds, only, names, has}
 use Rattle.lb_tok.specs.Form.{Below, Lang, One, Seq, Either, Word}
 use Rattle.lb_tok.specs.Grammar.{InExpr, InCond, InQuery, IsFact, IsTerm, IsConcat, IsExpr, IsLiteral, IsPred, IsNullTest, IsPrim, IsConj, IsCond, IsTab, IsChain, IsQuery, level}
-use Rattle.lb_reade.specs.Readers.{Reader, heads}
+use Rattle.lb_readt.specs.Readers.{Reader, heads}
 use Rattle.lb_reade.specs.Expressions.{Mixed}
-use Rattle.lb_reade.proofs.Sets.{subset, has_only}
-use Rattle.lb_reade.proofs.Joined.{Ev, Begins, Tongue, Exact, Meets, via}
-use Rattle.lb_reade.proofs.Combined.{Reads, plain_token, begins_wide}
+use Rattle.lb_readt.proofs.Sets.{subset, has_only}
+use Rattle.lb_readt.proofs.Joined.{Ev, Begins, Tongue, Exact, Meets, via}
+use Rattle.lb_readt.proofs.Combined.{Reads, plain_token, begins_wide}
+use Rattle.lb_readt.proofs.Tokens.{name_token}
 
 -- what begins a language, whatever stands in brackets
 
@@ -123,9 +123,6 @@ a_test s =
     let prim : IsPrim s tested test = inr (inr (ts, plain_token kinds.Is ∷ ts, null, a_null s, pred, refl)) in
     let conj : IsConj s tested test = (tested, [], test, inr prim, ([], [], [], refl, (refl, refl), refl), refl) in
     (tested, [], test, conj, ([], [], [], refl, (refl, refl), refl), refl)
-
-abbrev pub name_token : Token
-name_token = record { kind = kinds.Word; content = contents.Word (codes "A") }
 
 abbrev a_tab : Tab
 a_tab = record { table = codes "A"; correlation = None }

@@ -1,9 +1,4 @@
 pub mod Among
-pub mod Combined
 pub mod Conditions
 pub mod Expressions
 pub mod Inner
-pub mod Joined
-pub mod Repeats
-pub mod Sets
-pub mod Turned

@@ -1,7 +1,7 @@
 -- Expressions and conditions, read from left to right by the next token. X_at reads the production X of the grammar, where w
 -- says what reads in brackets; X_on reads the rest of it behind a part that is given. Where two alternatives begin alike,
 -- the reader takes what they share first.
-use Rattle.std.specs.Prelude.{ℕ, List, ◌∷◌, ◌++◌, Bool, true, false, Option, Some, None, ℤ, ◌⊎◌, if◌then◌else◌}
+use Rattle.std.specs.Prelude.{ℕ, List, ◌∷◌, ◌++◌, Bool, true, false, Option, Some, None, ◌⊎◌, if◌then◌else◌}
 use Rattle.std.proofs.Common.{inl, inr}
 use Rattle.lb_base.specs.declared.query.Expr.{Expr}
 use Rattle.lb_base.specs.declared.query.Expr.TheVariants as exprs
@@ -12,16 +12,16 @@ use Rattle.lb_base.specs.declared.query.Query.{Query}
 use Rattle.lb_base.specs.declared.query.Signed.{Signed}
 use Rattle.lb_base.specs.declared.query.Arm.{Arm}
 use Rattle.lb_base.specs.declared.query.Choice.{Choice}
-use Rattle.lb_base.specs.declared.query.Column.{Column}
 use Rattle.lb_base.specs.declared.query.Comparison.{Comparison}
 use Rattle.lb_base.specs.declared.query.Aggregate.TheVariants as aggregates
 use Rattle.lb_tok.specs.declared.kind.Kind.TheVariants as kinds
 use Rattle.lb_tok.specs.declared.call.Call.{Call}
 use Rattle.lb_tok.specs.declared.call.Call.TheVariants as calls
 use Rattle.lb_tok.specs.Kinds.{Kinds, only, from_to, names}
-use Rattle.lb_tok.specs.Words.{name_in, text_in, int_in, negative_in, count_in, day_in, word_in, comparison_of, is_date}
+use Rattle.lb_tok.specs.Words.{is_date}
 use Rattle.lb_tok.specs.Grammar.{sums, concats, products, ands, ors, alone, of_table, a_column}
-use Rattle.lb_reade.specs.Readers.{Reader, seq, give, one, pick, many, after, made, means, optional, listed, bracket}
+use Rattle.lb_readt.specs.Readers.{Reader, seq, give, pick, many, after, made, means, optional, choose, listed, bracket}
+use Rattle.lb_readt.specs.Tokens.{name_at, text_at, int_at, negative_at, day_at, word_at, comparison_at, column_at}
 
 -- what stands in a parenthesis at the head of a condition: a condition, or an expression with which one may begin
 abbrev pub Mixed : Type 0
@@ -43,47 +43,7 @@ pub record Readers : Type 0 where
 abbrev pub parens : {A : Type 0} → Readers → Reader A → Reader A
 parens w f = bracket w.room kinds.Open kinds.Close f
 
--- ---- single tokens
-
--- a name: its bytes, in upper case
-abbrev pub name_at : Reader (List ℕ)
-name_at = one names (λ t. name_in t.content)
-
--- a text: its bytes
-abbrev pub text_at : Reader (List ℕ)
-text_at = one (only kinds.Text) (λ t. text_in t.content)
-
--- an integer below 2 ^ 63
-abbrev pub int_at : Reader ℤ
-int_at = one (only kinds.Numeral) (λ t. int_in t.content)
-
--- the digits behind a minus: the negative of a number up to 2 ^ 63
-abbrev pub negative_at : Reader ℤ
-negative_at = one (only kinds.Numeral) (λ t. negative_in t.content)
-
--- an integer from 1 on, below 2 ^ 63
-abbrev pub count_at : Reader ℤ
-count_at = one (only kinds.Numeral) (λ t. count_in t.content)
-
--- a text that writes a day: the day's number
-abbrev pub day_at : Reader ℤ
-day_at = one (only kinds.Text) (λ t. day_in t.content)
-
--- a name, and the function that it names, if it names one
-abbrev pub word_at : Reader (Option Call × List ℕ)
-word_at = one names word_in
-
--- a comparison sign
-abbrev pub comparison_at : Reader Comparison
-comparison_at = one (from_to kinds.Equal kinds.AtLeast) (λ t. comparison_of t.kind)
-
--- ---- columns and calls
-
-unfoldable pub column_on : List ℕ → Reader Column
-column_on n = pick (only kinds.Dot) (after kinds.Dot (made (of_table n) name_at)) (give (alone n))
-
-unfoldable pub column_at : Reader Column
-column_at = seq name_at column_on
+-- ---- CASE and calls
 
 -- WHEN cond THEN expr
 unfoldable pub arm_at : Readers → Reader Arm
@@ -155,10 +115,6 @@ in_arguments_at w calls.SecLabel = made (λ p. exprs.Atom (atoms.SecLabel p.0 p.
 in_arguments_at w calls.SecLabelByName = made (λ p. exprs.Atom (atoms.SecLabelByName p.0 p.1)) two_texts_at
 in_arguments_at w calls.SecLabelToChar = shown_at
 in_arguments_at w calls.Date = date_at
-
--- f or g, as b says
-abbrev pub choose : {A : Type 0} → Bool → Reader A → Reader A → Reader A
-choose b f g ts = if b then f ts else g ts
 
 -- the arguments of a function, behind its name: those of DATE may be a text alone
 unfoldable pub arguments_at : Readers → Call → Reader Expr

@@ -1,4 +1,2 @@
-pub mod Answering
 pub mod Bracketed
 pub mod Expressions
-pub mod Readers

@@ -1,14 +1,11 @@
 // Columns, literals and the arguments of functions that hold no expression.
-ghost use Rattle.std.specs.Prelude.{◌≡◌, ◌<◌, IfOk, Some, None, true, false};
+ghost use Rattle.std.specs.Prelude.{◌≡◌, IfOk, Some, None, true, false};
 ghost use Rattle.lb_tok.specs.Grammar.{alone, of_table, a_column};
-ghost use Rattle.lb_reade.specs.Readers.{after, commas};
-ghost use Rattle.lb_reade.specs.Answering.{Gives};
-ghost use Rattle.lb_reade.specs.Expressions.{column_at, verified_texts_at, two_texts_at, shown_at, date_at, number_at, today_at, sign_at};
+ghost use Rattle.lb_readt.specs.Answering.{Gives};
+ghost use Rattle.lb_reade.specs.Expressions.{verified_texts_at, two_texts_at, shown_at, date_at, number_at, today_at, sign_at};
 
-use crate::fault::Read;
-use crate::list::{texts, with_first};
-use crate::next::{day, int, name, negative, next_is, take, text};
 use lb_base::{Atom, Column, Expr, Name, Str};
+use lb_readt::{Read, column, day, int, negative, next_is, take, text, texts, with_first};
 use lb_tok::{Kind, Token};
 use sqlite_items::Items;
 use std::alloc::{AllocError, Global};
@@ -33,52 +30,6 @@ pub fn column_of(table: &Name, name: Name) -> Result<Expr, AllocError>
         correlation: Some(table),
         name,
     })))
-}
-
-/// Reads a column, `name [. name]`. `Bad` where no name stands first or behind the point.
-#[tactic(auto, unfolding(crate::specs::Expressions::column_at, crate::specs::Expressions::column_on))]
-pub fn column<'a>(tokens: &'a [Token]) -> Read<'a, Column>
-    ensures { Gives (λ r. (r.0, r.1.now)) result (column_at tokens.now) }
-{
-    let (first, rest) = name(tokens)?;
-    if next_is(rest, Kind::Dot) {
-        let rest = take(rest, Kind::Dot)?;
-        let (name, rest) = name(rest)?;
-        Ok((
-            Column {
-                correlation: Some(first),
-                name,
-            },
-            rest,
-        ))
-    } else {
-        Ok((
-            Column {
-                correlation: None,
-                name: first,
-            },
-            rest,
-        ))
-    }
-}
-
-/// Reads `{, col}`: further columns, each behind a comma; none where no comma comes next. `Bad` where no column follows a comma.
-pub fn columns<'a>(alloc: Global, tokens: &'a [Token]) -> Read<'a, Items<Column>>
-    ensures { Gives (λ r. (r.0, r.1.now)) result (commas (column_at) tokens.now) }
-{
-    let mut parts = Items::new(alloc);
-    let mut rest = tokens;
-    for _ in 0..tokens.len() {
-        if next_is(rest, Kind::Comma) {
-            let after = take(rest, Kind::Comma)?;
-            let (part, after) = column(after)?;
-            parts.push(part)?;
-            rest = after;
-        } else {
-            return Ok((parts, rest));
-        }
-    }
-    Ok((parts, rest))
 }
 
 /// Reads the arguments of a role or group check, `SESSION_USER , text {, text}`: the texts.

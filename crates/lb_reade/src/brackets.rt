@@ -1,12 +1,12 @@
 // What readers ask of whatever reads in their brackets.
-ghost use Rattle.lb_reade.specs.Readers.{open_at};
+ghost use Rattle.lb_readt.specs.Readers.{open_at};
 ghost use Rattle.lb_reade.specs.Expressions.{Readers};
-ghost use Rattle.lb_reade.specs.Answering.{Gives, mixed_of};
-ghost use Rattle.lb_reade.specs.Bracketed.{inner_of, within};
+ghost use Rattle.lb_readt.specs.Answering.{Gives};
+ghost use Rattle.lb_reade.specs.Bracketed.{mixed_of, inner_of, within};
 
-use crate::fault::{Fault, Read};
 use crate::inside::{Inside, Mixed, Wanted};
 use lb_base::{Cond, Expr, Query};
+use lb_readt::{Fault, Read};
 use lb_tok::{Kind, Token};
 use std::alloc::Global;
 

@@ -1,18 +1,17 @@
 // Conditions: each function reads one production, and looks one token ahead.
-ghost use Rattle.std.specs.Prelude.{◌<◌};
+ghost use Rattle.std.specs.Prelude.{◌≡◌, ◌<◌};
 ghost use Rattle.lb_tok.specs.Kinds.{only};
 ghost use Rattle.lb_tok.specs.declared.kind.Kind.TheVariants as kinds;
-ghost use Rattle.lb_reade.specs.Readers.{many, after};
-ghost use Rattle.lb_reade.specs.Answering.{Gives, mixed_of, side_of};
-ghost use Rattle.lb_reade.specs.Expressions.{parens, null_test_at, set_at, range_at, side_at, compared_at, pred_at, may_pred, exists_at, prim_at, may_prim, neg_at, may_neg, and_on, conj_at, or_on, cond_at, mixed_at};
+ghost use Rattle.lb_readt.specs.Readers.{heads, many, after};
+ghost use Rattle.lb_readt.specs.Answering.{Gives};
+ghost use Rattle.lb_reade.specs.Bracketed.{mixed_of, side_of};
+ghost use Rattle.lb_reade.specs.Expressions.{parens, null_test_at, set_at, range_at, side_at, compared_at, pred_at, in_pred, may_pred, exists_at, prim_at, may_prim, neg_at, may_neg, and_on, conj_at, or_on, cond_at, mixed_at};
 
 use crate::brackets::Brackets;
 use crate::expression::{expr, exprs, plain, rest_on};
-use crate::fault::Read;
 use crate::inside::{Mixed, Side};
-use crate::list::with_first;
-use crate::next::{comparison, next_is, next_is_comparison, next_is_predicate, take};
 use lb_base::{Comparison, Cond, Expr};
+use lb_readt::{Read, comparison, next_is, next_is_comparison, take, with_first};
 use lb_tok::{Kind, Token};
 use sqlite_items::{Boxed, Items};
 use std::alloc::Global;
@@ -158,6 +157,23 @@ fn pred<'a, B: Brackets<'a>>(
         Ok((Cond::Not(Boxed::new(alloc, value)?), rest))
     } else {
         range(alloc, tokens, brackets, left)
+    }
+}
+
+// Whether the next token begins a predicate.
+#[tactic(auto, using(crate::proofs::Among::in_pred_is))]
+fn next_is_predicate(tokens: &[Token]) -> bool
+    ensures { result ≡ heads in_pred tokens.now }
+{
+    match tokens {
+        [] => false,
+        [first, ..] => {
+            first.kind.is_within(Kind::Equal, Kind::AtLeast)
+                || first.kind.is(Kind::Is)
+                || first.kind.is(Kind::Not)
+                || first.kind.is(Kind::In)
+                || first.kind.is(Kind::Between)
+        }
     }
 }
 

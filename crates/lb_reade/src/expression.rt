@@ -3,16 +3,14 @@ ghost use Rattle.std.specs.Prelude.{◌≡◌, ◌<◌, ◌∷◌, IfOk, Some, N
 ghost use Rattle.lb_tok.specs.Kinds.{only};
 ghost use Rattle.lb_base.specs.declared.query.Expr.TheVariants as exprs;
 ghost use Rattle.lb_tok.specs.declared.kind.Kind.TheVariants as kinds;
-ghost use Rattle.lb_reade.specs.Readers.{heads, many, after, commas};
-ghost use Rattle.lb_reade.specs.Answering.{Gives};
+ghost use Rattle.lb_readt.specs.Readers.{heads, many, after, commas};
+ghost use Rattle.lb_readt.specs.Answering.{Gives};
 ghost use Rattle.lb_reade.specs.Expressions.{parens, arm_at, choice_at, else_at, in_case_at, case_at, counted_at, parted_at, last_part_at, first_of_at, in_arguments_at, arguments_at, begins_arguments, called_at, named_at, literal_at, plain_at, fact_at, product_on, term_at, concat_on, concat_at, signed_at, signs, sum_on, expr_at, rest_at};
 
 use crate::atom::{column_alone, column_of, date, number, shown, sign, today, two_texts, verified};
 use crate::brackets::Brackets;
-use crate::fault::Read;
-use crate::list::with_first;
-use crate::next::{name, next_is, next_is_either, next_is_name, take, text, word};
 use lb_base::{Aggregate, Arm, Atom, Choice, Expr, Name, Signed};
+use lb_readt::{Read, name, next_is, next_is_either, next_is_name, take, text, with_first, word};
 use lb_tok::{Call, Kind, Token};
 use sqlite_items::{Boxed, Items};
 use std::alloc::{AllocError, Global};

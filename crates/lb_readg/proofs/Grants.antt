@@ -14,10 +14,10 @@ use Rattle.lb_tok.specs.Kinds.{Kinds, only, names}
 use Rattle.lb_tok.specs.Form.{Below, Lang, Nothing, Seq, Either, Word, After, Made, Means, May, Listed}
 use Rattle.lb_tok.specs.Grammar.{IsName}
 use Rattle.lb_tok.specs.Changes.{Named, AfterNamed, IsUser, IsGrantee, IsLabelName, IsAccess, IsRule, IsRuleOf, IsRight, IsRightsOn, IsGrant, IsRevoke}
-use Rattle.lb_reade.proofs.Joined.{Within}
-use Rattle.lb_reade.proofs.Combined.{Reads, give_reads, then_reads, same_reads, pick_reads, wide, made_reads, after_reads, means_reads, may_reads, listed_reads}
-use Rattle.lb_reade.proofs.Expressions.{name_reads}
-use Rattle.lb_reade.proofs.Conditions.{nil, ends, made_is, made_of}
+use Rattle.lb_readt.proofs.Joined.{Within}
+use Rattle.lb_readt.proofs.Combined.{Reads, give_reads, then_reads, same_reads, pick_reads, wide, made_reads, after_reads, means_reads, may_reads, listed_reads}
+use Rattle.lb_readt.proofs.Tokens.{name_reads}
+use Rattle.lb_readt.proofs.Languages.{nil, ends, made_is, made_of}
 use Rattle.lb_readg.specs.Granting.{user_at, in_grantee, spelt_grantee_at, grantee_at, which_access_at, access_at, down_or_up_at, rule_at, rule_of_at, right_at, rights_at, granted_on, third_on, second_to_on, second_on, first_on, grant_rights_at, revoked_on, revoked_table_on, revoke_rights_at, grant_label_at, grant_exemption_at, grant_role_at, grant_secadm_at, grant_at, revoke_label_at, revoke_exemption_at, revoke_role_at, revoke_secadm_at, revoke_at}
 use Rattle.lb_readg.proofs.Names.{Ahead, Chosen, MayAfter, named_reads, ahead_reads, to_may, of_may}
 use Rattle.lb_readg.proofs.LabelNames.{label_name_reads}

@@ -6,8 +6,8 @@ use Rattle.lb_tok.specs.Kinds.{only, names}
 use Rattle.lb_tok.specs.Form.{Lang, After, Made}
 use Rattle.lb_tok.specs.Grammar.{IsName}
 use Rattle.lb_tok.specs.Changes.{IsLabelName}
-use Rattle.lb_reade.proofs.Combined.{Reads, then_reads, wide, made_reads, after_reads}
-use Rattle.lb_reade.proofs.Expressions.{name_reads}
+use Rattle.lb_readt.proofs.Combined.{Reads, then_reads, wide, made_reads, after_reads}
+use Rattle.lb_readt.proofs.Tokens.{name_reads}
 use Rattle.lb_readg.specs.Granting.{label_on, label_name_at}
 
 abbrev pub LabelOn : List ℕ → Lang LabelName

@@ -8,12 +8,12 @@ use Rattle.lb_tok.specs.Words.{name_in}
 use Rattle.lb_tok.specs.Form.{Lang, One, Seq, Either}
 use Rattle.lb_tok.specs.Grammar.{IsName}
 use Rattle.lb_tok.specs.Changes.{Named, AfterNamed, MayNamed}
-use Rattle.lb_reade.specs.Readers.{Reader, seq}
+use Rattle.lb_readt.specs.Readers.{Reader, seq}
 use Rattle.lb_readg.specs.Granting.{marked, name_or, named_at}
-use Rattle.lb_reade.proofs.Sets.{subset, within, apart, disjoint, has_only}
-use Rattle.lb_reade.proofs.Joined.{Within, lasts}
-use Rattle.lb_reade.proofs.Combined.{Reads, is_plain, one_reads, then_reads, same_reads}
-use Rattle.lb_reade.proofs.Inner.{name_token}
+use Rattle.lb_readt.proofs.Sets.{subset, within, apart, disjoint, has_only}
+use Rattle.lb_readt.proofs.Joined.{Within, lasts}
+use Rattle.lb_readt.proofs.Combined.{Reads, is_plain, one_reads, then_reads, same_reads}
+use Rattle.lb_readt.proofs.Tokens.{name_token}
 
 -- a name, and what its keyword is taken for
 abbrev pub Marked : {A : Type 0} → (Kind → A) → Lang (A × List ℕ)

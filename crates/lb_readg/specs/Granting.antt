@@ -17,8 +17,8 @@ use Rattle.lb_tok.specs.declared.kind.Kind.{Kind}
 use Rattle.lb_tok.specs.declared.kind.Kind.TheVariants as kinds
 use Rattle.lb_tok.specs.Kinds.{Kinds, only, names, has}
 use Rattle.lb_tok.specs.Words.{name_in}
-use Rattle.lb_reade.specs.Readers.{Reader, seq, give, one, pick, after, made, means, may, listed}
-use Rattle.lb_reade.specs.Expressions.{choose, name_at}
+use Rattle.lb_readt.specs.Readers.{Reader, seq, give, one, pick, after, made, means, may, listed, choose}
+use Rattle.lb_readt.specs.Tokens.{name_at}
 
 -- ---- keywords that may be names
 

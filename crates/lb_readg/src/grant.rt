@@ -1,14 +1,14 @@
 // GRANT and REVOKE.
 ghost use Rattle.std.specs.Prelude.{◌≡◌, ◌∷◌, [], ◌++◌};
 ghost use Rattle.lb_tok.specs.declared.kind.Kind.TheVariants as kinds;
-ghost use Rattle.lb_reade.specs.Readers.{after, commas, listed};
-ghost use Rattle.lb_reade.specs.Answering.{Gives};
+ghost use Rattle.lb_readt.specs.Readers.{after, commas, listed};
+ghost use Rattle.lb_readt.specs.Answering.{Gives};
 ghost use Rattle.lb_readg.specs.Granting.{which_access_at, access_at, down_or_up_at, rule_at, rule_of_at, right_at, rights_at, granted_on, third_on, second_to_on, second_on, first_on, grant_rights_at, revoked_on, revoked_table_on, revoke_rights_at, grant_label_at, grant_exemption_at, grant_role_at, grant_secadm_at, grant_at, revoke_label_at, revoke_exemption_at, revoke_role_at, revoke_secadm_at, revoke_at};
 
 use crate::user::{grantee, label_name, spelt_grantee, user};
 use crate::word::{means, name_or, named, next_is_grantee};
 use lb_base::{Access, Change, Grantee, Name, RuleName, TableRight};
-use lb_reade::{Read, name, next_is, next_is_either, next_is_name, take, with_first};
+use lb_readt::{Read, name, next_is, next_is_either, next_is_name, take, with_first};
 use lb_tok::{Kind, Token};
 use sqlite_items::Items;
 use std::alloc::Global;

@@ -1,11 +1,11 @@
 // Names of users and labels.
 ghost use Rattle.std.specs.Prelude.{◌≡◌};
-ghost use Rattle.lb_reade.specs.Answering.{Gives};
+ghost use Rattle.lb_readt.specs.Answering.{Gives};
 ghost use Rattle.lb_readg.specs.Granting.{user_at, spelt_grantee_at, grantee_at, label_on, label_name_at};
 
 use crate::word::means;
 use lb_base::{Grantee, LabelName, Name};
-use lb_reade::{Read, name, next_is, noise, take};
+use lb_readt::{Read, name, next_is, noise, take};
 use lb_tok::{Kind, Token};
 
 /// A user: [USER] name

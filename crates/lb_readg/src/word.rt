@@ -1,12 +1,12 @@
 // Keywords: those that stand for a value, and those that may be names.
 ghost use Rattle.std.specs.Prelude.{◌≡◌};
 ghost use Rattle.lb_tok.specs.Kinds.{only, has};
-ghost use Rattle.lb_reade.specs.Readers.{heads, means};
-ghost use Rattle.lb_reade.specs.Answering.{Gives};
+ghost use Rattle.lb_readt.specs.Readers.{heads, means};
+ghost use Rattle.lb_readt.specs.Answering.{Gives};
 ghost use Rattle.lb_readg.specs.Granting.{marked, name_or, named_at, in_grantee};
 
 use lb_base::Name;
-use lb_reade::{Fault, Read, take};
+use lb_readt::{Fault, Read, take};
 use lb_tok::{Content, Kind, Token};
 
 /// Takes the keyword, which must be next, and returns the value that it stands for.

@@ -3,7 +3,7 @@ use Rattle.std.proofs.Common.{◌≡◌, ℕ, zero, suc, ◌-◌, ◌<◌, refl,
 use Rattle.lb_reade.specs.declared.inside.Wanted.{Wanted}
 use Rattle.lb_reade.specs.declared.inside.Wanted.TheVariants as wanteds
 use Rattle.lb_tok.specs.declared.token.Token.{Token}
-use Rattle.lb_reade.specs.Readers.{deep, stop}
+use Rattle.lb_readt.specs.Readers.{deep, stop}
 use Rattle.lb_readq.specs.Queries.{readers}
 use Rattle.lb_reade.specs.Bracketed.{within}
 use Rattle.lb_readq.specs.Levels.{level_at}

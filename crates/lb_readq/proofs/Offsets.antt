@@ -7,7 +7,7 @@ use Rattle.lb_tok.specs.declared.token.Tokens.{Tokens}
 use Rattle.lb_tok.specs.declared.lex.ReadFault.{ReadFault}
 use Rattle.lb_tok.specs.declared.lex.ReadFault.TheVariants.{Syntax}
 use Rattle.lb_tok.specs.Form.{Lang}
-use Rattle.lb_reade.specs.Readers.{Why, bad, deep, Answer, got, stop}
+use Rattle.lb_readt.specs.Readers.{Why, bad, deep, Answer, got, stop}
 use Rattle.lb_tok.specs.Limit.{walk}
 use Rattle.lb_readq.specs.Judging.{Refused, Judged}
 use Rattle.lb_tok.specs.Refusals.{Spells, NoneThrough, TooDeep}

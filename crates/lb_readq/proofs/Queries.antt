@@ -15,14 +15,15 @@ use Rattle.lb_tok.specs.Kinds.{Kinds, only, names}
 use Rattle.lb_tok.specs.Words.{name_in, word_in, call_of}
 use Rattle.lb_tok.specs.Form.{Lang, One, Seq, Either, Word, After, Made, Means, Parens}
 use Rattle.lb_tok.specs.Grammar.{level, of_table, a_column, InExpr, InCond, InQuery, IsName, IsFact, IsLiteral, IsExpr, IsCond, IsAlias, IsTab, IsItem, IsItems, IsOn, IsJoin, IsChain, IsWhere, IsGroup, IsHaving, IsQuery, IsDirection, IsSortKey, IsOrder, IsFetch, IsSelect}
-use Rattle.lb_reade.specs.Expressions.{Readers}
+use Rattle.lb_reade.specs.Expressions.{Readers, unnamed_at}
 use Rattle.lb_readq.specs.Queries.{readers, alias_at, tab_at, value_on, starred_on, item_at, items_at, joined_at, join_at, in_join, chain_at, where_at, group_at, having_at, query_at, direction_at, sort_key_at, order_at, row_count_at, fetch_at, may_fetch_at, select_at}
-use Rattle.lb_reade.specs.Expressions.{unnamed_at}
-use Rattle.lb_reade.proofs.Joined.{Within}
-use Rattle.lb_reade.proofs.Combined.{Reads, word_reads, give_reads, then_reads, same_reads, pick_reads, many_reads, wide, made_reads, after_reads, means_reads, may_reads, flag_reads, optional_reads, listed_reads}
+use Rattle.lb_readt.proofs.Joined.{Within}
+use Rattle.lb_readt.proofs.Combined.{Reads, word_reads, give_reads, then_reads, same_reads, pick_reads, many_reads, wide, made_reads, after_reads, means_reads, may_reads, flag_reads, optional_reads, listed_reads}
 use Rattle.lb_reade.proofs.Inner.{in_literal, in_fact, MixedOf, InMixed, expr_tongue, cond_tongue, mixed_tongue, query_tongue, down_reads}
-use Rattle.lb_reade.proofs.Expressions.{after_expr, after_cond, after_query, Lower, Ready, parens_reads, in_parens, name_reads, count_reads, word_at_reads, column_reads, called_reads, Called, literal_reads, expr_reads, rest_reads, Rest, in_rest, Named, NamedOn, named_view, view_name, to_named, of_named}
-use Rattle.lb_reade.proofs.Conditions.{cond_reads, mixed_reads, made_is, made_of, to_exprs, of_exprs}
+use Rattle.lb_readt.proofs.Tokens.{name_reads, count_reads, word_at_reads, column_reads}
+use Rattle.lb_reade.proofs.Expressions.{after_expr, after_cond, after_query, Lower, Ready, parens_reads, in_parens, called_reads, Called, literal_reads, expr_reads, rest_reads, Rest, in_rest, Named, NamedOn, named_view, view_name, to_named, of_named}
+use Rattle.lb_readt.proofs.Languages.{made_is, made_of}
+use Rattle.lb_reade.proofs.Conditions.{cond_reads, mixed_reads, to_exprs, of_exprs}
 
 -- ---- aliases and tables
 

@@ -5,12 +5,12 @@ use Rattle.lb_tok.specs.declared.token.Token.{Token}
 use Rattle.lb_tok.specs.Kinds.{Kinds, has, openers, closers}
 use Rattle.lb_tok.specs.Form.{Lang}
 use Rattle.lb_tok.specs.Grammar.{level}
-use Rattle.lb_reade.specs.Readers.{bad, deep, Answer, got, stop, Reader, bind, seq, heads}
+use Rattle.lb_readt.specs.Readers.{bad, deep, Answer, got, stop, Reader, bind, seq, heads}
 use Rattle.lb_readq.specs.Queries.{ended}
 use Rattle.lb_tok.specs.Limit.{passed, walk_on, walk}
 use Rattle.lb_readq.specs.Judging.{Judged, Unique, Complete}
 use Rattle.lb_tok.specs.Refusals.{Spells}
-use Rattle.lb_reade.proofs.Joined.{Ev, StopSo, SoundAt, Meets, Exact, walk-append}
+use Rattle.lb_readt.proofs.Joined.{Ev, StopSo, SoundAt, Meets, Exact, walk-append}
 
 -- a reader for each depth that is exact for the language
 pub record Whole' (P : Lang Stmt) (f : ℕ → Reader Stmt) (F E : Kinds) : Type 0 where

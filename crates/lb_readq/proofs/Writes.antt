@@ -6,12 +6,14 @@ use Rattle.lb_tok.specs.declared.kind.Kind.TheVariants as kinds
 use Rattle.lb_tok.specs.Kinds.{Kinds, only, names}
 use Rattle.lb_tok.specs.Form.{Listed}
 use Rattle.lb_tok.specs.Grammar.{InExpr, IsName, IsRow, IsSource, IsTargets, IsInsert, IsAssignment, IsUpdate, IsDelete, IsQueryOrWrite}
-use Rattle.lb_reade.specs.Readers.{listed}
-use Rattle.lb_reade.specs.Expressions.{Readers, name_at}
+use Rattle.lb_readt.specs.Readers.{listed}
+use Rattle.lb_readt.specs.Tokens.{name_at}
+use Rattle.lb_reade.specs.Expressions.{Readers}
 use Rattle.lb_readq.specs.Queries.{readers, in_row_at, row_at, source_at, targets_at, insert_at, assignment_at, update_at, delete_at, query_or_write_at}
-use Rattle.lb_reade.proofs.Combined.{Reads, then_reads, pick_reads, wide, made_reads, after_reads, optional_reads, listed_reads}
+use Rattle.lb_readt.proofs.Combined.{Reads, then_reads, pick_reads, wide, made_reads, after_reads, optional_reads, listed_reads}
 use Rattle.lb_reade.proofs.Inner.{in_fact}
-use Rattle.lb_reade.proofs.Expressions.{after_expr, after_cond, Content', Ready, parens_reads, name_reads, expr_reads}
+use Rattle.lb_readt.proofs.Tokens.{name_reads}
+use Rattle.lb_reade.proofs.Expressions.{after_expr, after_cond, Content', Ready, parens_reads, expr_reads}
 use Rattle.lb_readq.proofs.Whole.{Whole'}
 use Rattle.lb_readq.proofs.Queries.{ready, tab_reads, where_reads, after_select, select_reads}
 

@@ -5,7 +5,7 @@ use Rattle.lb_tok.specs.declared.token.Token.{Token}
 use Rattle.lb_tok.specs.declared.kind.Kind.TheVariants as kinds
 use Rattle.lb_tok.specs.Kinds.{Kinds, only}
 use Rattle.lb_tok.specs.Form.{Lang}
-use Rattle.lb_reade.specs.Readers.{Why, bad, deep, Answer, got, stop, Reader, heads}
+use Rattle.lb_readt.specs.Readers.{Why, bad, deep, Answer, got, stop, Reader, heads}
 use Rattle.lb_tok.specs.Limit.{walk}
 use Rattle.lb_tok.specs.Refusals.{Spells, NoneThrough, TooDeep}
 

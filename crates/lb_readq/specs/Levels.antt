@@ -2,7 +2,7 @@
 use Rattle.lb_tok.specs.Form.{Inner, an_expr, a_cond, a_query}
 use Rattle.lb_reade.specs.declared.inside.Wanted.{Wanted}
 use Rattle.lb_reade.specs.declared.inside.Wanted.TheVariants as wanteds
-use Rattle.lb_reade.specs.Readers.{Reader, made}
+use Rattle.lb_readt.specs.Readers.{Reader, made}
 use Rattle.lb_reade.specs.Bracketed.{inner_mixed}
 use Rattle.lb_reade.specs.Expressions.{Readers, expr_at, cond_at, mixed_at}
 use Rattle.lb_readq.specs.Queries.{query_at}

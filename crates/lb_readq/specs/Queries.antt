@@ -29,8 +29,9 @@ use Rattle.lb_tok.specs.declared.kind.Kind.TheVariants as kinds
 use Rattle.lb_tok.specs.declared.call.Call.{Call}
 use Rattle.lb_tok.specs.Kinds.{Kinds, only, names}
 use Rattle.lb_tok.specs.Grammar.{of_table, a_column}
-use Rattle.lb_reade.specs.Readers.{bad, deep, got, stop, Reader, seq, give, pick, many, word, after, made, means, may, flag, optional, listed}
-use Rattle.lb_reade.specs.Expressions.{unnamed_at, Readers, called_at, column_at, cond_at, count_at, expr_at, mixed_at, name_at, parens, rest_at, word_at}
+use Rattle.lb_readt.specs.Readers.{bad, deep, got, stop, Reader, seq, give, pick, many, word, after, made, means, may, flag, optional, listed}
+use Rattle.lb_readt.specs.Tokens.{column_at, count_at, name_at, word_at}
+use Rattle.lb_reade.specs.Expressions.{unnamed_at, Readers, called_at, cond_at, expr_at, mixed_at, parens, rest_at}
 
 -- ---- queries
 

@@ -1,13 +1,14 @@
 // Queries, clause by clause.
 ghost use Rattle.std.specs.Prelude.{◌<◌, Some, None};
-ghost use Rattle.lb_reade.specs.Readers.{flag};
-ghost use Rattle.lb_reade.specs.Answering.{Gives};
+ghost use Rattle.lb_readt.specs.Readers.{flag};
+ghost use Rattle.lb_readt.specs.Answering.{Gives};
 ghost use Rattle.lb_readq.specs.Queries.{where_at, having_at, group_at, query_at};
 
 use crate::item::items;
 use crate::table::{chain, chains};
 use lb_base::{Column, Cond, Query};
-use lb_reade::{Brackets, Read, column, columns, cond, flag, next_is, take, with_first};
+use lb_reade::{Brackets, cond};
+use lb_readt::{Read, column, columns, flag, next_is, take, with_first};
 use lb_tok::{Kind, Token};
 use sqlite_items::{Boxed, Items};
 use std::alloc::Global;

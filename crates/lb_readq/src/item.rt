@@ -1,16 +1,14 @@
 // The outputs of a query.
 ghost use Rattle.std.specs.Prelude.{◌<◌};
-ghost use Rattle.lb_reade.specs.Readers.{after, commas};
-ghost use Rattle.lb_reade.specs.Answering.{Gives};
+ghost use Rattle.lb_readt.specs.Readers.{after, commas};
+ghost use Rattle.lb_readt.specs.Answering.{Gives};
 ghost use Rattle.lb_readq.specs.Queries.{value_on, starred_on, item_at, items_at};
 ghost use Rattle.lb_reade.specs.Expressions.{unnamed_at};
 
 use crate::table::alias;
 use lb_base::{Expr, Item, Name};
-use lb_reade::{
-    Brackets, Read, called, column_of, in_parens, literal, name, next_is, next_is_name, rest_on,
-    take, with_first, word,
-};
+use lb_reade::{Brackets, called, column_of, in_parens, literal, rest_on};
+use lb_readt::{Read, name, next_is, next_is_name, take, with_first, word};
 use lb_tok::{Call, Kind, Token};
 use sqlite_items::Items;
 use std::alloc::Global;

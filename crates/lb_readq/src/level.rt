@@ -1,13 +1,14 @@
 // One level of brackets over the next: the only recursion of the readers.
 ghost use Rattle.std.specs.Prelude.{⊤};
 ghost use Rattle.lb_readq.specs.Queries.{readers};
-ghost use Rattle.lb_reade.specs.Answering.{Gives};
+ghost use Rattle.lb_readt.specs.Answering.{Gives};
 ghost use Rattle.lb_reade.specs.Bracketed.{inner_of, within};
 ghost use Rattle.lb_readq.specs.Levels.{level_at};
 
 use crate::clause::query;
 use crate::opener::open;
-use lb_reade::{Brackets, Fault, Inside, Mixed, Read, Wanted, cond, expr, mixed};
+use lb_reade::{Brackets, Inside, Mixed, Wanted, cond, expr, mixed};
+use lb_readt::{Fault, Read};
 use lb_tok::{Kind, Token};
 use std::alloc::Global;
 

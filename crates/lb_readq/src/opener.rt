@@ -1,10 +1,10 @@
 // Openers, where a number of brackets may still open.
 ghost use Rattle.std.specs.Prelude.{◌<◌, IfOk};
-ghost use Rattle.lb_reade.specs.Readers.{open_at};
-ghost use Rattle.lb_reade.specs.Answering.{Gives};
+ghost use Rattle.lb_readt.specs.Readers.{open_at};
+ghost use Rattle.lb_readt.specs.Answering.{Gives};
 ghost use Rattle.lb_readq.specs.Queries.{readers};
 
-use lb_reade::{Fault, next_is, take};
+use lb_readt::{Fault, next_is, take};
 use lb_tok::{Kind, Token};
 
 /// Takes an opener of this kind, where `depth` brackets may still open: the tokens behind it. `Deep` at an opener where

@@ -1,12 +1,13 @@
 // Queries with their order and the number of their first rows.
 ghost use Rattle.std.specs.Prelude.{◌<◌, Some, None};
-ghost use Rattle.lb_reade.specs.Readers.{after, commas};
-ghost use Rattle.lb_reade.specs.Answering.{Gives};
+ghost use Rattle.lb_readt.specs.Readers.{after, commas};
+ghost use Rattle.lb_readt.specs.Answering.{Gives};
 ghost use Rattle.lb_readq.specs.Queries.{direction_at, sort_key_at, order_at, row_count_at, fetch_at, may_fetch_at, select_at};
 
 use crate::clause::query;
 use lb_base::{Direction, Select, SortKey};
-use lb_reade::{Brackets, Read, count, expr, next_is, take, with_first};
+use lb_reade::{Brackets, expr};
+use lb_readt::{Read, count, next_is, take, with_first};
 use lb_tok::{Kind, Token};
 use sqlite_items::Items;
 use std::alloc::Global;

@@ -4,13 +4,13 @@ ghost use Rattle.lb_tok.specs.Grammar.{IsQueryOrWrite};
 ghost use Rattle.lb_tok.specs.declared.token.Token.{Token};
 ghost use Rattle.lb_tok.specs.declared.lex.ReadFault.TheVariants.{Syntax};
 ghost use Rattle.lb_readq.specs.Queries.{statement_at, ended};
-ghost use Rattle.lb_reade.specs.Answering.{Gives};
+ghost use Rattle.lb_readt.specs.Answering.{Gives};
 ghost use Rattle.lb_tok.specs.Refusals.{IsRead, FaultSays, StandsAt};
 
 use crate::level::Depth;
 use crate::write::statement;
 use lb_base::Stmt;
-use lb_reade::Fault;
+use lb_readt::Fault;
 use lb_tok::{ReadFault, Token, Tokens};
 use std::alloc::Global;
 

@@ -1,12 +1,12 @@
 // Readers for the crates above, with the number of brackets that may still open.
-ghost use Rattle.lb_reade.specs.Answering.{Gives};
+ghost use Rattle.lb_readt.specs.Answering.{Gives};
 ghost use Rattle.lb_reade.specs.Expressions.{cond_at, case_at};
 ghost use Rattle.lb_readq.specs.Queries.{readers, select_at};
 
 use crate::level::Depth;
 use crate::order;
 use lb_base::{Cond, Expr, Select};
-use lb_reade::Read;
+use lb_readt::Read;
 use lb_tok::Token;
 use std::alloc::Global;
 

@@ -1,11 +1,12 @@
 // Tables and their joins.
 ghost use Rattle.std.specs.Prelude.{◌≡◌, ◌<◌, [], Some, None, false};
-ghost use Rattle.lb_reade.specs.Readers.{heads, many, after, commas};
-ghost use Rattle.lb_reade.specs.Answering.{Gives};
+ghost use Rattle.lb_readt.specs.Readers.{heads, many, after, commas};
+ghost use Rattle.lb_readt.specs.Answering.{Gives};
 ghost use Rattle.lb_readq.specs.Queries.{alias_at, tab_at, joined_at, join_at, in_join, chain_at};
 
 use lb_base::{Chain, Cond, Join, Name, Tab};
-use lb_reade::{Brackets, Read, cond, name, next_is, next_is_name, noise, take};
+use lb_reade::{Brackets, cond};
+use lb_readt::{Read, name, next_is, next_is_name, noise, take};
 use lb_tok::{Kind, Token};
 use sqlite_items::Items;
 use std::alloc::Global;

@@ -1,13 +1,14 @@
 // Writes.
 ghost use Rattle.std.specs.Prelude.{◌<◌, Some, None};
-ghost use Rattle.lb_reade.specs.Readers.{after, commas};
-ghost use Rattle.lb_reade.specs.Answering.{Gives};
+ghost use Rattle.lb_readt.specs.Readers.{after, commas};
+ghost use Rattle.lb_readt.specs.Answering.{Gives};
 ghost use Rattle.lb_readq.specs.Queries.{in_row_at, row_at, source_at, targets_at, insert_at, assignment_at, where_at, update_at, delete_at, query_or_write_at};
 
 use crate::order::select;
 use crate::table::tab;
 use lb_base::{Assignment, Cond, Delete, Expr, Insert, InsertSource, Name, Stmt, Update};
-use lb_reade::{Brackets, Read, cond, expr, exprs, name, names, next_is, take, with_first};
+use lb_reade::{Brackets, cond, expr, exprs};
+use lb_readt::{Read, name, names, next_is, take, with_first};
 use lb_tok::{Kind, Token};
 use sqlite_items::Items;
 use std::alloc::Global;

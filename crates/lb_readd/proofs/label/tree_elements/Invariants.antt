@@ -2,8 +2,8 @@
 use Rattle.std.proofs.Common.{◌≡◌, ◌-◌, length}
 use Rattle.lb_tok.specs.declared.kind.Kind.TheVariants as kinds
 use Rattle.lb_tok.specs.Kinds.{only}
-use Rattle.lb_reade.specs.Readers.{turns, after, commas}
-use Rattle.lb_reade.proofs.Turned.{with_front}
+use Rattle.lb_readt.specs.Readers.{turns, after, commas}
+use Rattle.lb_readt.proofs.Turned.{with_front}
 use Rattle.lb_readd.specs.Defining.{tree_element_at}
 use Rattle.lb_readd.proofs.label.tree_elements.Given as goal
 

@@ -2,7 +2,7 @@
 use Rattle.std.proofs.Common.{◌≡◌, List, [], subst}
 use Rattle.lb_tok.specs.declared.token.Token.{Token}
 use Rattle.lb_tok.specs.Changes.{IsDefinition}
-use Rattle.lb_reade.specs.Readers.{bad, deep, got, stop}
+use Rattle.lb_readt.specs.Readers.{bad, deep, got, stop}
 use Rattle.lb_readq.specs.Judging.{Judged}
 use Rattle.lb_readq.proofs.Whole.{judges}
 use Rattle.lb_readq.proofs.Offsets.{left_over, if_read, if_cut, goes_wrong, goes_deep}

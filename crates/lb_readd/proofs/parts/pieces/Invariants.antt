@@ -2,7 +2,7 @@
 use Rattle.std.proofs.Common.{◌≡◌, ◌-◌, length}
 use Rattle.lb_tok.specs.declared.kind.Kind.TheVariants as kinds
 use Rattle.lb_tok.specs.Kinds.{only}
-use Rattle.lb_reade.specs.Readers.{turns, after}
+use Rattle.lb_readt.specs.Readers.{turns, after}
 use Rattle.lb_readd.specs.Defining.{piece_at, parts_on}
 use Rattle.lb_readd.specs.Pieces.{all_parts}
 use Rattle.lb_readd.proofs.Folded.{with_value}

@@ -1,6 +1,6 @@
 use Rattle.std.proofs.Common.{length, sym, ap, ◌∙◌}
 use Rattle.std.proofs.lemmas.Result.{err_from_is_err_and}
-use Rattle.lb_reade.specs.Readers.{got}
+use Rattle.lb_readt.specs.Readers.{got}
 use Rattle.lb_readd.specs.Defining.{in_option, option_at, options_at, written}
 use Rattle.lb_readd.proofs.Folded.{folds_begin, folds_on, folds_end, folds_out, folds_stop}
 use Rattle.lb_readd.proofs.Flags.{flags, flags_none, flags_with}

@@ -2,9 +2,9 @@
 use Rattle.std.proofs.Common.{◌≡◌, ◌-◌, length}
 use Rattle.lb_tok.specs.declared.kind.Kind.TheVariants as kinds
 use Rattle.lb_tok.specs.Kinds.{only}
-use Rattle.lb_reade.specs.Readers.{many, turns, after}
+use Rattle.lb_readt.specs.Readers.{many, turns, after}
 use Rattle.lb_reade.specs.Expressions.{conj_at}
-use Rattle.lb_reade.proofs.Turned.{with_front}
+use Rattle.lb_readt.proofs.Turned.{with_front}
 use Rattle.lb_reade.proofs.condition.conjs.Given as goal
 
 abbrev pub invariant-loop : goal.invariant-loop

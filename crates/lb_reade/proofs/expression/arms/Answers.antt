@@ -3,7 +3,7 @@ use Rattle.std.proofs.lemmas.Result.{err_from_is_err_and}
 use Rattle.lb_tok.specs.declared.kind.Kind.TheVariants as kinds
 use Rattle.lb_tok.specs.Kinds.{only}
 use Rattle.lb_reade.specs.Expressions.{arm_at}
-use Rattle.lb_reade.proofs.Turned.{turns_begin, turns_on, turns_end, turns_out, turns_stop}
+use Rattle.lb_readt.proofs.Turned.{turns_begin, turns_on, turns_end, turns_out, turns_stop}
 use Rattle.lb_reade.proofs.expression.arms.Goals as goal
 
 pub loop-init : goal.loop-init

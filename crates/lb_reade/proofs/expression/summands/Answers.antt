@@ -1,7 +1,7 @@
 use Rattle.std.proofs.Common.{length, sym, ◌∙◌}
 use Rattle.std.proofs.lemmas.Result.{err_from_is_err_and}
 use Rattle.lb_reade.specs.Expressions.{signed_at, signs}
-use Rattle.lb_reade.proofs.Turned.{turns_begin, turns_on, turns_end, turns_out, turns_stop}
+use Rattle.lb_readt.proofs.Turned.{turns_begin, turns_on, turns_end, turns_out, turns_stop}
 use Rattle.lb_reade.proofs.expression.summands.Goals as goal
 
 pub loop-init : goal.loop-init

@@ -2,9 +2,9 @@ use Rattle.std.proofs.Common.{length, sym, ◌∙◌}
 use Rattle.std.proofs.lemmas.Result.{err_from_is_err_and}
 use Rattle.lb_tok.specs.declared.kind.Kind.TheVariants as kinds
 use Rattle.lb_tok.specs.Kinds.{only}
-use Rattle.lb_reade.specs.Readers.{after, commas}
+use Rattle.lb_readt.specs.Readers.{after, commas}
 use Rattle.lb_readq.specs.Queries.{item_at}
-use Rattle.lb_reade.proofs.Turned.{turns_begin, turns_on, turns_end, turns_out, turns_stop, word_stop, word_on}
+use Rattle.lb_readt.proofs.Turned.{turns_begin, turns_on, turns_end, turns_out, turns_stop, word_stop, word_on}
 use Rattle.lb_readq.proofs.item.more_items.Goals as goal
 
 pub loop-init : goal.loop-init

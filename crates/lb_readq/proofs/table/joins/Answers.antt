@@ -1,7 +1,7 @@
 use Rattle.std.proofs.Common.{length, sym, ◌∙◌}
 use Rattle.std.proofs.lemmas.Result.{err_from_is_err_and}
 use Rattle.lb_readq.specs.Queries.{join_at, in_join}
-use Rattle.lb_reade.proofs.Turned.{turns_begin, turns_on, turns_end, turns_out, turns_stop}
+use Rattle.lb_readt.proofs.Turned.{turns_begin, turns_on, turns_end, turns_out, turns_stop}
 use Rattle.lb_readq.proofs.table.joins.Goals as goal
 
 pub loop-init : goal.loop-init

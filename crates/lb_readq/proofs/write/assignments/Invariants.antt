@@ -2,9 +2,9 @@
 use Rattle.std.proofs.Common.{◌≡◌, ◌-◌, length}
 use Rattle.lb_tok.specs.declared.kind.Kind.TheVariants as kinds
 use Rattle.lb_tok.specs.Kinds.{only}
-use Rattle.lb_reade.specs.Readers.{turns, after, commas}
+use Rattle.lb_readt.specs.Readers.{turns, after, commas}
 use Rattle.lb_readq.specs.Queries.{assignment_at}
-use Rattle.lb_reade.proofs.Turned.{with_front}
+use Rattle.lb_readt.proofs.Turned.{with_front}
 use Rattle.lb_readq.proofs.write.assignments.Given as goal
 
 abbrev pub invariant-loop : goal.invariant-loop

@@ -1,0 +1,8 @@
+pub mod Among
+pub mod Combined
+pub mod Joined
+pub mod Languages
+pub mod Repeats
+pub mod Sets
+pub mod Tokens
+pub mod Turned
