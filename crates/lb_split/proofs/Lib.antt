@@ -2,3 +2,4 @@ pub mod Scanned
 pub mod Pieced
 pub mod Worded
 pub mod Sectioned
+pub mod Mapped

@@ -38,6 +38,10 @@ breaking bytes first (p ∷ ps) = if breaks bytes first p then Some p else break
 abbrev pub line_of : List ℕ → ℕ → ℕ
 line_of bytes at = count_by (λ b. b == 10) (take at bytes) + 1
 
+-- the text between two offsets of the bytes
+abbrev pub text_in : List ℕ → ℕ × ℕ → List ℕ
+text_in bytes span = slice_range bytes span.0 span.1
+
 -- the statements before the next header, each as the offsets of its first byte and behind its last one
 abbrev pub statements_in : List Piece → List (ℕ × ℕ)
 statements_in [] = []

@@ -7,4 +7,4 @@ mod scan;
 mod script;
 
 pub use piece::{Piece, resume, split};
-pub use script::{Script, ScriptFault, Section, Span, Spans, sections};
+pub use script::{Script, ScriptFault, Section, Span, Spans, sections, text_at};

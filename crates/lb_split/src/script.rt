@@ -3,7 +3,7 @@ ghost use Rattle.std.specs.Prelude.{◌≡◌, ◌<◌, ◌≤◌, ◌^◌, ◌�
 ghost use Rattle.lb_split.specs.declared.script.ScriptFault.TheVariants as faults;
 ghost use Rattle.lb_split.specs.Pieces.{IsSpan, pieces_from};
 ghost use Rattle.lb_split.specs.Sections.{HeaderAnswers, IsNextWithin, added, empty_script, from_header, headed};
-ghost use Rattle.lb_split.specs.Scripts.{Answers, script_of, script_by, header_at as header_in, statements_in, line_of};
+ghost use Rattle.lb_split.specs.Scripts.{Answers, script_of, script_by, header_at as header_in, text_in, statements_in, line_of};
 
 use crate::header::{Header, Kind};
 use crate::piece::{Piece, resume, split};
@@ -69,6 +69,16 @@ pub fn sections(alloc: Global, bytes: &[u8]) -> Result<Script, ScriptFault>
     }
 }
 
+/// What stands between two offsets of the bytes. Offsets past their end are those of the end, and where the second is
+/// less than the first nothing stands between them.
+pub fn text_at(bytes: &[u8], span: Span) -> &[u8]
+    ensures { result.now ≡ text_in bytes.now span }
+{
+    let to = (span.1 as usize).min(bytes.len());
+    let from = (span.0 as usize).min(to);
+    &bytes[from..to]
+}
+
 /// The sections of the pieces that begin with this header.
 fn script_from(alloc: Global, bytes: &[u8], first: Span) -> Result<Script, ScriptFault>
     requires short { length bytes.now < 2 ^ 32 }
@@ -96,8 +106,7 @@ fn header_at(alloc: Global, bytes: &[u8], span: Span, is_first: bool) -> Result<
     requires within { IsSpan bytes.now span.0 span.1 }
     ensures { HeaderAnswers bytes.now span.0 (header_in bytes.now span.0 span.1) is_first result }
 {
-    let line = &bytes[span.0 as usize..span.1 as usize];
-    match Header::of(alloc, line)? {
+    match Header::of(alloc, text_at(bytes, span))? {
         None => Err(ScriptFault::BadScript(line_at(bytes, span.0))),
         Some(header) => {
             if is_first || !header.kind.is_setup() {
