@@ -35,19 +35,13 @@ use Rattle.lb_front.specs.declared.stop.Stop.{Stop}
 use Rattle.lb_front.specs.declared.stop.Stop.TheVariants as stops
 use Rattle.lb_front.specs.Booked.{Stands, IsSeated}
 use Rattle.lb_front.specs.Executed.{Left, Added, Executed, ExecutedAt}
-use Rattle.lb_front.specs.Prepared.{IsUnread, stop_reply, IsReady, IsStopped, Did}
+use Rattle.lb_front.specs.Prepared.{stop_reply, IsReady, IsStopped, Did}
 
 -- ---- why a statement is not run
 
 pub no_truth : (b : Bool) → b ≡ true → b ≡ false → ⊥
 no_truth true e h = absurd cc
 no_truth false e h = absurd cc
-
-pub stopped_reading : (J : List Entry) (limit : ℕ) (stored : Stored) (user text : List ℕ) (stop : Stop) → IsUnread text stop → IsStopped J limit stored user text stop
-stopped_reading J limit stored user text stops.NoMemory h = tt
-stopped_reading J limit stored user text (stops.Syntax at) h = h
-stopped_reading J limit stored user text stops.NotYet h = absurd h
-stopped_reading J limit stored user text (stops.JournalFull n) h = absurd h
 
 pub stopped_unbuilt : (J : List Entry) (limit : ℕ) (stored : Stored) (user text : List ℕ) (s : Stmt) → IsReadable text s → IsUnbuilt stored.cat stored.tables user s → IsStopped J limit stored user text stops.NotYet
 stopped_unbuilt J limit stored user text s h e = (s, record { reads = h; unbuilt = e })

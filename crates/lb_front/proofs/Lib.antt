@@ -1,6 +1,5 @@
 pub mod Begun
 pub mod Committed
-pub mod Readings
 pub mod Sections
 pub mod Sessions
 pub mod Shut

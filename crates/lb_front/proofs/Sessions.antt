@@ -1,8 +1,8 @@
 -- A session, one statement after the other.
-use Rattle.std.proofs.Common.{◌≡◌, inl, inr, ℕ, zero, suc, ◌+◌, ◌<◌, ◌≤◌, List, [], ◌∷◌, ◌++◌, length, take, flat_map, map, get_or, Option, Some, None, refl, sym, ap, subst, ◌∙◌, append_assoc, arith}
+use Rattle.std.proofs.Common.{◌≡◌, inl, inr, ℕ, zero, ◌+◌, ◌≤◌, List, [], ◌∷◌, ◌++◌, length, take, flat_map, Option, Some, None, refl, sym, ap, subst, ◌∙◌, append_assoc, arith}
 use Rattle.std.specs.Prelude.{ℤ}
 use Rattle.std.specs.Io.KnownBytes.{Appends}
-use Rattle.std.proofs.lemmas.List.{append-nil, take_all, take_more, take-map, take-append-le}
+use Rattle.std.proofs.lemmas.List.{append-nil, take_all, take-append-le}
 use Rattle.std.proofs.lemmas.List.Concat.{flat_map-append}
 use Rattle.lb_wire.specs.Told.{Grows, AppendsPart}
 use Rattle.lb_wire.proofs.Told.{Grows-nil, Grows-then, Appends-then, AppendsPart-then}
@@ -55,22 +55,6 @@ text_more limit s texts more days later ans a =
     let head : List ℕ = header_text s.place s.number s.user in
     let blocks : flat_map block_text (ans ++ a ∷ []) ≡ flat_map block_text ans ++ block_text a = flat_map-append block_text ans (a ∷ []) ∙ ap (λ (t : List ℕ). flat_map block_text ans ++ t) (append-nil (block_text a)) in
     append_assoc head (flat_map block_text ans) (block_text a) ∙ ap (λ (t : List ℕ). head ++ t) (sym blocks)
-
--- one item more of a mapped list
-pub mapped_more : {A B : Type 0} (f : A → B) (xs : List A) (i : ℕ) (d : A) → i < length xs → take (i + 1) (map f xs) ≡ take i (map f xs) ++ f (get_or xs i d) ∷ []
-mapped_more {A} {B} f xs i d lt =
-    take-map f (i + 1) xs ∙ ap (λ (ys : List A). map f ys) (take_more xs i d lt) ∙ map_one (take i xs) ∙ ap (λ (ys : List B). ys ++ f (get_or xs i d) ∷ []) (sym (take-map f i xs))
-  where
-    map_one : (ys : List A) → map f (ys ++ get_or xs i d ∷ []) ≡ map f ys ++ f (get_or xs i d) ∷ []
-    map_one [] = refl
-    map_one (y ∷ ys) = ap (λ (zs : List B). f y ∷ zs) (map_one ys)
-
-pub mapped_all : {A B : Type 0} (f : A → B) (xs : List A) (i : ℕ) → length xs ≤ i → length (map f xs) ≤ i
-mapped_all {A} {B} f xs i le = let h = same xs in omega (arith, h, le)
-  where
-    same : (ys : List A) → length (map f ys) ≡ length ys
-    same [] = refl
-    same (y ∷ ys) = ap suc (same ys)
 
 -- ---- a statement more
 

@@ -1,34 +1,14 @@
 -- A section without a session, one statement after the other.
-use Rattle.std.proofs.Common.{◌≡◌, ◌⊎◌, inl, inr, ℕ, ◌+◌, ◌≤◌, List, [], ◌∷◌, ◌++◌, length, take, flat_map, Option, Some, None, refl, sym, ap, subst, ◌∙◌, append_assoc, arith}
+use Rattle.std.proofs.Common.{◌≡◌, ℕ, ◌+◌, ◌≤◌, List, [], ◌∷◌, ◌++◌, length, take, flat_map, Option, sym, ap, subst, ◌∙◌, append_assoc, arith}
 use Rattle.std.specs.Io.KnownBytes.{Appends}
 use Rattle.std.proofs.lemmas.List.{append-nil, take_all}
 use Rattle.std.proofs.lemmas.List.Concat.{flat_map-append}
 use Rattle.lb_wire.specs.Told.{AppendsPart}
 use Rattle.lb_wire.proofs.Told.{Appends-then, AppendsPart-then}
 use Rattle.lb_model.specs.declared.reply.Answer.{Answer}
-use Rattle.lb_model.specs.declared.reply.Mark.TheVariants as marks
-use Rattle.lb_model.specs.declared.reply.Reply.{Reply}
 use Rattle.lb_model.specs.Out.{block_text, full_text}
-use Rattle.lb_model.specs.Sections.{IsShut, AreShut}
-use Rattle.lb_front.specs.declared.stop.Stop.{Stop}
-use Rattle.lb_front.specs.declared.stop.Stop.TheVariants as stops
-use Rattle.lb_front.specs.declared.readable.Readable.{Readable}
-use Rattle.lb_front.specs.Prepared.{WasReadable, IsUnread, stop_reply}
+use Rattle.lb_model.specs.Sections.{AreShut}
 use Rattle.lb_front.specs.Running.{IsShutAnswer, shut_text, ShutRan, ShutPart, ShutLoops}
-
--- ---- one answer
-
-shut_by : (limit : ℕ) (text : List ℕ) (stop : Stop) → IsUnread text stop → IsShut limit text (stop_reply stop)
-shut_by limit text stops.NoMemory h = inl refl
-shut_by limit text (stops.Syntax at) h = inr (inl (at, refl, h))
-shut_by limit text stops.NotYet h = absurd h
-shut_by limit text (stops.JournalFull n) h = absurd h
-
-pub shut_unread : (limit : ℕ) (text : List ℕ) (stop : Stop) (a : Answer) → IsUnread text stop → a.place ≡ None → a.mark ≡ marks.Dash → a.reply ≡ stop_reply stop → IsShutAnswer limit text a
-shut_unread limit text stop a h place mark reply = (place, mark, subst (λ (r : Reply). IsShut limit text r) (sym reply) (shut_by limit text stop h))
-
-pub shut_read : (limit : ℕ) (text : List ℕ) (r : Readable) (a : Answer) → WasReadable text r → a.place ≡ None → a.mark ≡ marks.Dash → a.reply ≡ stop_reply (stops.JournalFull limit) → IsShutAnswer limit text a
-shut_read limit text r a h place mark reply = (place, mark, inr (inr (reply, (r.stmt, h.reads))))
 
 -- ---- answers one after the other
 

@@ -1,8 +1,10 @@
 -- A statement that is to be run, and why one is not.
-use Rattle.std.specs.Prelude.{ℕ, ℤ, ◌≡◌, ◌<◌, ◌⊎◌, true, List, length, Result, Ok, Err}
+use Rattle.std.specs.Prelude.{ℕ, ℤ, ◌≡◌, ◌<◌, ◌⊎◌, true, List, length}
 use Rattle.lb_base.specs.declared.write.Stmt.{Stmt}
+use Rattle.lb_tok.specs.declared.lex.ReadFault.{ReadFault}
+use Rattle.lb_tok.specs.declared.lex.ReadFault.TheVariants as faults
 use Rattle.lb_tok.specs.Canonical.{canonical}
-use Rattle.lb_tok.specs.Syntax.{most_bytes, IsBeyond, IsReadable, IsSyntaxAt}
+use Rattle.lb_tok.specs.Syntax.{IsSyntaxAt}
 use Rattle.lb_model.specs.declared.entry.Entry.{Entry}
 use Rattle.lb_model.specs.declared.reply.Reply.{Reply}
 use Rattle.lb_model.specs.declared.reply.Reply.TheVariants as replies
@@ -11,29 +13,15 @@ use Rattle.lb_model.specs.Answer.{is_query}
 use Rattle.lb_model.specs.Step.{outcome}
 use Rattle.lb_model.specs.NotYet.{IsNotYet, IsBuilt, rows_given}
 use Rattle.lb_refr.specs.Stored.{Stored}
-use Rattle.lb_front.specs.declared.readable.Readable.{Readable}
 use Rattle.lb_front.specs.declared.stop.Stop.{Stop}
 use Rattle.lb_front.specs.declared.stop.Stop.TheVariants as stops
 use Rattle.lb_front.specs.declared.book.Session.{Session}
 use Rattle.lb_front.specs.declared.book.Prepared.{Prepared}
 
--- the statement of the text, which can be read again, and its canonical text
-pub record WasReadable (text : List ℕ) (r : Readable) : Type 0 where
-  pub reads : IsReadable text r.stmt
-  pub canonical_text : r.text ≡ canonical r.stmt
-
--- why the text is not read
-abbrev pub IsUnread : List ℕ → Stop → Type 0
-IsUnread text stops.NoMemory = Unit {0}
-IsUnread text (stops.Syntax at) = IsSyntaxAt text at
-IsUnread text _ = ⊥
-
--- the canonical text of the statement is read again, or it goes beyond a limit, or memory was refused
-abbrev pub Again : Stmt → Result Unit Stop → Type 0
-Again s (Ok done) = IsBeyond s → ⊥
-Again s (Err stops.NoMemory) = Unit {0}
-Again s (Err (stops.Syntax at)) = IsBeyond s × (at ≡ most_bytes)
-Again s (Err stop) = ⊥
+-- why a statement has no place whose text is refused so
+abbrev pub stop_of : ReadFault → Stop
+stop_of (faults.Syntax at) = stops.Syntax at
+stop_of faults.NoMemory = stops.NoMemory
 
 -- the statement of the text is built, its rows are there, its entry is that of the session's next statement, and there is room for it
 pub record IsReady (J : List Entry) (limit : ℕ) (stored : Stored) (session : Session) (text : List ℕ) (day : ℤ) (p : Prepared) : Type 0 where

@@ -1,12 +1,9 @@
 -- The sections of a script, with the texts of their statements.
-use Rattle.std.specs.Prelude.{ℕ, List, ◌∷◌, map, slice_range, Option, Some, None}
+use Rattle.std.specs.Prelude.{ℕ, List, ◌∷◌, map, Option, Some, None}
 use Rattle.lb_split.specs.declared.script.Section.{Section as SpanSection}
 use Rattle.lb_split.specs.declared.script.Script.{Script}
+use Rattle.lb_split.specs.Scripts.{text_in}
 use Rattle.lb_model.specs.Sections.{Section}
-
--- the text between two offsets of the bytes
-abbrev pub text_in : List ℕ → ℕ × ℕ → List ℕ
-text_in bytes span = slice_range bytes span.0 span.1
 
 -- a section with the texts of its statements, which stand in the bytes
 abbrev pub section_in : List ℕ → SpanSection → Section

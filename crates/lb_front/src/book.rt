@@ -11,10 +11,10 @@ ghost use Rattle.lb_front.specs.Booked.{Stands, IsSeated, IsOpened, IsShut};
 ghost use Rattle.lb_front.specs.Executed.{Executed, Added};
 ghost use Rattle.lb_front.specs.Prepared.{IsReady, IsStopped, Did};
 
-use crate::readable::{Readable, statement_of};
 use crate::stop::{Stop, unplaced};
 use lb_base::{Name, Names, NoMemory, RowList, Stmt, Str};
 use lb_model::{Answer, Entry, Mark, Reply, Said};
+use lb_readable::{Readable, readable};
 use lb_refr::{Store, given_rows};
 use std::alloc::{AllocError, Global};
 
@@ -133,7 +133,7 @@ impl Book {
         ensures ready { IfOk result (λ p. IsReady self.now.journal.items self.now.limit self.now.store session.now text.now day p) }
         ensures stopped { IfErr result (λ s. IsStopped self.now.journal.items self.now.limit self.now.store session.now.user text.now s) }
     {
-        let Readable { stmt, text } = statement_of(alloc, text)?;
+        let Readable { stmt, text } = readable(alloc, text)?;
         let rows = given_rows(alloc, &stmt)?;
         if self.store.is_unbuilt(&session.user, &stmt, &rows) {
             return Err(Stop::NotYet);

@@ -3,7 +3,6 @@
 
 mod book;
 mod output;
-mod readable;
 mod run;
 mod section;
 mod stop;

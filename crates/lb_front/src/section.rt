@@ -1,19 +1,20 @@
 // The run of one section.
-ghost use Rattle.std.specs.Prelude.{◌≡◌, ◌≤◌, ◌<◌, ◌^◌, ℕ, List, map, OnOk, OnErr, Err, slice_range};
+ghost use Rattle.std.specs.Prelude.{◌≡◌, ◌≤◌, ◌<◌, ◌^◌, ℕ, List, map, OnOk, OnErr, Err};
 ghost use Rattle.lb_wire.specs.Causes.{Rose};
 ghost use Rattle.lb_model.specs.declared.entry.Entry.{Entry};
 ghost use Rattle.lb_model.specs.Journal.{IsMade, opens};
 ghost use Rattle.lb_front.specs.Booked.{Stands, IsSeated, IsOpened};
-ghost use Rattle.lb_front.specs.Scripted.{section_in, text_in};
+ghost use Rattle.lb_split.specs.Scripts.{text_in};
+ghost use Rattle.lb_front.specs.Scripted.{section_in};
 ghost use Rattle.lb_front.specs.declared.output.Cut.TheVariants as cuts;
 ghost use Rattle.lb_front.specs.Running.{SectionRan, SectionCut, SectionPart, ShutRan, ShutPart, IsShutAnswer, session_section, RanBehind, CutBehind};
 
 use crate::book::{Book, Session};
 use crate::output::{Cut, put_block, put_full, put_header};
-use crate::readable::statement_of;
 use crate::stop::{Stop, unplaced};
 use lb_model::Answer;
-use lb_split::{Section, Span};
+use lb_readable::readable;
+use lb_split::{Section, Span, text_at};
 use lb_wire::{Clock, Sink};
 use std::alloc::Global;
 
@@ -112,7 +113,7 @@ fn run_session<K: Sink, C: Clock>(
     }
     for span in statements {
         let day = clock.today();
-        let answer = book.execute(alloc, &mut session, day, part(bytes, *span));
+        let answer = book.execute(alloc, &mut session, day, text_at(bytes, *span));
         match put_block(alloc, answer, sink) {
             Ok(()) => {}
             Err(cut) => return Err(cut),
@@ -139,7 +140,7 @@ fn run_shut<K: Sink>(
         Err(cut) => return Err(cut),
     }
     for span in statements {
-        let answer = shut(alloc, limit, part(bytes, *span));
+        let answer = shut(alloc, limit, text_at(bytes, *span));
         match put_block(alloc, answer, sink) {
             Ok(()) => {}
             Err(cut) => return Err(cut),
@@ -152,17 +153,8 @@ fn run_shut<K: Sink>(
 fn shut(alloc: Global, limit: u64, text: &[u8]) -> Answer
     ensures { IsShutAnswer limit text.now result }
 {
-    match statement_of(alloc, text) {
+    match readable(alloc, text) {
         Ok(_) => unplaced(Stop::JournalFull(limit)),
-        Err(stop) => unplaced(stop),
+        Err(fault) => unplaced(Stop::from(fault)),
     }
-}
-
-/// What stands between two offsets of the bytes; offsets past their end are those of the end.
-fn part(bytes: &[u8], span: Span) -> &[u8]
-    ensures { result.now ≡ text_in bytes.now span }
-{
-    let to = (span.1 as usize).min(bytes.len());
-    let from = (span.0 as usize).min(to);
-    &bytes[from..to]
 }

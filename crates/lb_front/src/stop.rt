@@ -2,9 +2,10 @@
 ghost use Rattle.std.specs.Prelude.{◌≡◌, None};
 ghost use Rattle.lb_model.specs.declared.reply.Mark.TheVariants as marks;
 ghost use Rattle.lb_front.specs.declared.stop.Stop.TheVariants as stops;
-ghost use Rattle.lb_front.specs.Prepared.{stop_reply};
+ghost use Rattle.lb_front.specs.Prepared.{stop_of, stop_reply};
 
 use lb_model::{Answer, Mark, Refusal, Reply};
+use lb_readable::ReadFault;
 use std::alloc::AllocError;
 
 /// Why a statement has no place.
@@ -23,6 +24,17 @@ impl From<AllocError> for Stop {
 
     fn from(_error: AllocError) -> Stop {
         Stop::NoMemory
+    }
+}
+
+impl From<ReadFault> for Stop {
+    ghost from_gives = { λ fault stop. stop ≡ stop_of fault };
+
+    fn from(fault: ReadFault) -> Stop {
+        match fault {
+            ReadFault::Syntax(at) => Stop::Syntax(at),
+            ReadFault::NoMemory => Stop::NoMemory,
+        }
     }
 }
 

@@ -1,40 +1,39 @@
--- Canonical texts, read again.
-use Rattle.std.proofs.Common.{inr, ◌≡◌, ℕ, List, Result, Ok, Err, sym, ap, subst, ◌∙◌}
-use Rattle.std.specs.Prelude.{IsUtf8, IfOk}
+-- What is said of a canonical text, which is read again.
+use Rattle.std.proofs.Common.{inl, inr, ◌≡◌, ℕ, List, Result, Ok, Err, sym, ap, subst, ◌∙◌}
+use Rattle.std.specs.Prelude.{IfOk}
 use Rattle.lb_base.specs.declared.write.Stmt.{Stmt}
 use Rattle.lb_tok.specs.Canonical.{canonical}
-use Rattle.lb_tok.specs.Spelled.{IsSpoken}
-use Rattle.lb_tok.specs.declared.lex.ReadFault.{ReadFault}
-use Rattle.lb_tok.specs.declared.lex.ReadFault.TheVariants as faults
-use Rattle.lb_tok.specs.Syntax.{Reads, FailsSo, GoesWrong, IsBeyond}
-use Rattle.lb_read.proofs.Again.{beyond}
-use Rattle.lb_read.proofs.Trees.{keeps}
+use Rattle.lb_tok.specs.Syntax.{Reads, IsBeyond}
+use Rattle.lb_read.proofs.Texts.{not_both}
+use Rattle.lb_read.proofs.Trees.{one_statement}
+use Rattle.lb_readable.specs.declared.statement.Readable.{Readable}
+use Rattle.lb_readable.specs.Again.{IsReadableOf}
 use Rattle.lbac_canonical.specs.declared.line.Line.{Line}
 use Rattle.lbac_canonical.specs.declared.line.Line.TheVariants as lines
-use Rattle.lbac_canonical.specs.Lines.{IsLineOf, IsLineAgain, IsCompared}
+use Rattle.lbac_canonical.specs.Lines.{IsLineOf, IsCompared}
 
--- a canonical text was read, and compared with that of what was read
-compared_again : (s t : Stmt) (text : List ℕ) (line : Line) → IsSpoken s → text ≡ canonical s → Reads text t → IsCompared (canonical t) text line → IsLineAgain s line
-compared_again s t text (lines.Canonical told) h e r c = (c ∙ e, (keeps s t h (subst (λ (v : List ℕ). Reads v t) e r)).1)
-compared_again s t text (lines.Syntax at) h e r c = absurd c
-compared_again s t text lines.Another h e r c = absurd (c (ap canonical (keeps s t h (subst (λ (v : List ℕ). Reads v t) e r)).0 ∙ sym e))
+-- the canonical text is read as the same statement, which has the same canonical text
+same_text : (given text : List ℕ) (first again : Readable) → IsReadableOf given first → text ≡ first.text → IsReadableOf text again → again.text ≡ text
+same_text given text first again f e a =
+    let same : again.stmt ≡ first.stmt = one_statement first.text again.stmt first.stmt (subst (λ (v : List ℕ). Reads v again.stmt) e a.reads.reads) f.again in
+    a.canonical_text ∙ ap canonical same ∙ sym f.canonical_text ∙ sym e
 
--- a canonical text that goes wrong
-pub wrong_again : (s : Stmt) (text : List ℕ) (fault : ReadFault) (at : ℕ) → IsSpoken s → text ≡ canonical s → IsUtf8 text → fault ≡ faults.Syntax at → FailsSo text fault → IsBeyond s
-wrong_again s text fault at h e u is fails =
-    let wrong : FailsSo text (faults.Syntax at) = subst (λ (f : ReadFault). FailsSo text f) is fails in
-    beyond s at h (subst (λ (v : List ℕ). IsUtf8 v) e u) (subst (λ (v : List ℕ). FailsSo v (faults.Syntax at)) e wrong)
+compared_again : (given text other : List ℕ) (first : Readable) (line : Line) → IsReadableOf given first → text ≡ first.text → other ≡ text → IsCompared other text line → IsLineOf given line
+compared_again given text other first (lines.Canonical told) f e same c = (first.stmt, f.reads, c ∙ e ∙ f.canonical_text)
+compared_again given text other first (lines.Syntax at) f e same c = absurd c
+compared_again given text other first lines.Another f e same c = absurd (c same)
 
--- what is said of the canonical text of what a text says is said of the text
-line_from_again : (text : List ℕ) (s : Stmt) (line : Line) → Reads text s → IsLineAgain s line → IsLineOf text line
-line_from_again text s (lines.Canonical told) r h = (s, record { reads = r; again = h.1 }, h.0)
-line_from_again text s (lines.Syntax at) r h = inr (s, r, h.0, h.1)
-line_from_again text s lines.Another r h = absurd h
+pub line_compared : (given text bytes other : List ℕ) (first again : Readable) (line : Line) → IsReadableOf given first → text ≡ first.text → bytes ≡ text → other ≡ again.text → IsReadableOf bytes again → IsCompared other text line → IsLineOf given line
+line_compared given text bytes other first again line f e b o a c =
+    compared_again given text other first line f e (o ∙ same_text given text first again f e (subst (λ (v : List ℕ). IsReadableOf v again) b a)) c
 
-pub lines_from_again : {E : Type 0} (text : List ℕ) (s : Stmt) (line : Result Line E) → Reads text s → IfOk line (IsLineAgain s) → IfOk line (IsLineOf text)
-lines_from_again text s (Ok line) r h = line_from_again text s line r h
-lines_from_again text s (Err e) r h = h
+-- what is said of the canonical text is said of the text
+line_from_again : (given : List ℕ) (first : Readable) (line : Line) → IsReadableOf given first → IsLineOf first.text line → IsLineOf given line
+line_from_again given first (lines.Canonical told) f h = (first.stmt, f.reads, h.2 ∙ ap canonical (one_statement first.text h.0 first.stmt h.1.reads f.again))
+line_from_again given first (lines.Syntax at) f (inl wrong) = absurd (not_both first.text at first.stmt wrong f.again)
+line_from_again given first (lines.Syntax at) f (inr h) = absurd (f.reads.again (subst (λ (u : Stmt). IsBeyond u) (one_statement first.text h.0 first.stmt h.1 f.again) h.2))
+line_from_again given first lines.Another f h = absurd h
 
-pub lines_compared_again : {E : Type 0} (s t : Stmt) (bytes text : List ℕ) (line : Result Line E) → IsSpoken s → bytes ≡ text → text ≡ canonical s → Reads bytes t → IfOk line (IsCompared (canonical t) text) → IfOk line (IsLineAgain s)
-lines_compared_again s t bytes text (Ok line) h same e r c = compared_again s t text line h e (subst (λ (v : List ℕ). Reads v t) same r) c
-lines_compared_again s t bytes text (Err e) h same k r c = c
+pub lines_from_again : {E : Type 0} (given bytes : List ℕ) (first : Readable) (line : Result Line E) → IsReadableOf given first → bytes ≡ first.text → IfOk line (IsLineOf bytes) → IfOk line (IsLineOf given)
+lines_from_again given bytes first (Ok line) f e h = line_from_again given first line f (subst (λ (v : List ℕ). IsLineOf v line) e h)
+lines_from_again given bytes first (Err error) f e h = h

@@ -1,7 +1,6 @@
 -- Lines, one text after the other.
-use Rattle.std.proofs.Common.{◌≡◌, inl, inr, ℕ, ◌+◌, ◌<◌, List, [], ◌∷◌, ◌++◌, length, take, flat_map, map, get_or, Option, refl, sym, ap, subst, ◌∙◌, append-nil}
+use Rattle.std.proofs.Common.{◌≡◌, inl, inr, ℕ, ◌+◌, List, [], ◌∷◌, ◌++◌, take, flat_map, Option, sym, ap, subst, ◌∙◌, append-nil}
 use Rattle.std.specs.Io.KnownBytes.{Appends}
-use Rattle.std.proofs.lemmas.List.{take_more, take-map}
 use Rattle.std.proofs.lemmas.List.Concat.{flat_map-append}
 use Rattle.lb_wire.specs.Told.{AppendsPart}
 use Rattle.lb_wire.proofs.Told.{Appends-then, AppendsPart-whole, AppendsPart-then}
@@ -37,12 +36,3 @@ printed_cut a b c all i text h more (inr p) = record {
   right = rw more (joined (take i all) h.told text p.0 h.right p.1);
   bytes = subst (λ (t : List ℕ). AppendsPart a c t) (bytes_more h.told p.0) (AppendsPart-then a b c (flat_map printed h.told) (printed p.0) h.bytes p.2);
 }
-
--- one item more of a mapped list
-pub mapped_more : {A B : Type 0} (f : A → B) (xs : List A) (i : ℕ) (d : A) → i < length xs → take (i + 1) (map f xs) ≡ take i (map f xs) ++ f (get_or xs i d) ∷ []
-mapped_more {A} {B} f xs i d lt =
-    take-map f (i + 1) xs ∙ ap (λ (ys : List A). map f ys) (take_more xs i d lt) ∙ map_one (take i xs) ∙ ap (λ (ys : List B). ys ++ f (get_or xs i d) ∷ []) (sym (take-map f i xs))
-  where
-    map_one : (ys : List A) → map f (ys ++ get_or xs i d ∷ []) ≡ map f ys ++ f (get_or xs i d) ∷ []
-    map_one [] = refl
-    map_one (y ∷ ys) = ap (λ (zs : List B). f y ∷ zs) (map_one ys)

@@ -1,14 +1,15 @@
 -- What is said of a text, and of the statements of a script.
-use Rattle.std.specs.Prelude.{ℕ, ◌≡◌, List, [], ◌∷◌, ◌++◌, ◌⊎◌, codes, flat_map, map, take, slice_range, Option}
+use Rattle.std.specs.Prelude.{ℕ, ◌≡◌, List, [], ◌∷◌, ◌++◌, ◌⊎◌, codes, flat_map, map, take, Option}
 use Rattle.std.specs.Fmt.{decimal}
 use Rattle.std.specs.Io.KnownBytes.{Appends}
 use Rattle.lb_wire.specs.Told.{AppendsPart}
 use Rattle.lb_split.specs.Pieces.{pieces_of}
+use Rattle.lb_split.specs.Scripts.{text_in}
 use Rattle.lb_split.specs.declared.piece.Piece.{Piece}
 use Rattle.lb_split.specs.declared.piece.Piece.TheVariants as pieces
 use Rattle.lb_base.specs.declared.write.Stmt.{Stmt}
 use Rattle.lb_tok.specs.Canonical.{canonical}
-use Rattle.lb_tok.specs.Syntax.{IsBeyond, IsReadable, IsSyntaxAt, most_bytes}
+use Rattle.lb_tok.specs.Syntax.{IsReadable, IsSyntaxAt}
 use Rattle.lbac_canonical.specs.declared.line.Line.{Line}
 use Rattle.lbac_canonical.specs.declared.line.Line.TheVariants as lines
 
@@ -19,12 +20,6 @@ abbrev pub IsLineOf : List ℕ → Line → Type 0
 IsLineOf text (lines.Canonical told) = (s : Stmt) × IsReadable text s × (told ≡ canonical s)
 IsLineOf text (lines.Syntax at) = IsSyntaxAt text at
 IsLineOf text lines.Another = ⊥
-
--- what the line says of a statement's canonical text
-abbrev pub IsLineAgain : Stmt → Line → Type 0
-IsLineAgain s (lines.Canonical told) = (told ≡ canonical s) × (IsBeyond s → ⊥)
-IsLineAgain s (lines.Syntax at) = IsBeyond s × (at ≡ most_bytes)
-IsLineAgain s lines.Another = ⊥
 
 -- what the line says of two texts: it is the second, where both are the same
 abbrev pub IsCompared : List ℕ → List ℕ → Line → Type 0
@@ -59,10 +54,6 @@ statements_in (pieces.Header from to ∷ ps) = statements_in ps
 statements_in (pieces.Statement from to ∷ ps) = (from, to) ∷ statements_in ps
 statements_in (pieces.Quit from to ∷ ps) = statements_in ps
 statements_in (pieces.End ∷ ps) = statements_in ps
-
--- what stands between two offsets
-abbrev pub text_in : List ℕ → ℕ × ℕ → List ℕ
-text_in script span = slice_range script span.0 span.1
 
 -- the texts of a script's statements
 abbrev pub texts_of : List ℕ → List (List ℕ)

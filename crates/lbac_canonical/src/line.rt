@@ -1,19 +1,13 @@
 // What is said of one statement of a script.
 ghost use Rattle.std.specs.Prelude.{◌≡◌, ◌++◌, List, ℕ, IfOk, codes};
 ghost use Rattle.std.specs.Fmt.{decimal};
-ghost use Rattle.lb_base.specs.declared.write.Stmt.{Stmt};
-ghost use Rattle.lb_tok.specs.Canonical.{canonical as canonical_text};
-ghost use Rattle.lb_tok.specs.Spelled.{IsSpoken};
-ghost use Rattle.lb_tok.specs.Syntax.{Reads, FailsSo};
-ghost use Rattle.lbac_canonical.specs.Lines.{IsLineOf, IsLineAgain, IsCompared, line_text};
+ghost use Rattle.lb_readable.specs.declared.statement.Readable.{Readable};
+ghost use Rattle.lb_readable.specs.Again.{IsReadableOf, IsRefusedSo};
+ghost use Rattle.lbac_canonical.specs.Lines.{IsLineOf, IsCompared, line_text};
 
-use lb_base::{NoMemory, Stmt, Str};
-use lb_print::canonical;
-use lb_read::{ReadFault, read};
+use lb_base::{NoMemory, Str};
+use lb_readable::{ReadFault, readable};
 use std::alloc::{AllocError, Global};
-
-/// The byte from which on no text is read.
-const MOST_BYTES: u32 = 4096;
 
 /// What is said of a text.
 #[derive(Drop)]
@@ -31,15 +25,15 @@ pub enum Line {
 pub fn line_of(alloc: Global, text: &[u8]) -> Result<Line, NoMemory>
     ensures { IfOk result (IsLineOf text.now) }
 {
-    match read(alloc, text) {
-        Ok(stmt) => line_of_stmt(alloc, stmt),
+    match readable(alloc, text) {
+        Ok(first) => line_again(alloc, first.into_text()),
         Err(fault) => line_of_fault(fault),
     }
 }
 
-/// The line of a text that is not read.
+/// The line of a text whose statement can't be read, or can't be read again.
 fn line_of_fault(fault: ReadFault) -> Result<Line, NoMemory>
-    ensures { (text : List ℕ) → FailsSo text fault → IfOk result (IsLineOf text) }
+    ensures { (text : List ℕ) → IsRefusedSo text fault → IfOk result (IsLineOf text) }
 {
     match fault {
         ReadFault::Syntax(at) => Ok(Line::Syntax(at)),
@@ -47,31 +41,15 @@ fn line_of_fault(fault: ReadFault) -> Result<Line, NoMemory>
     }
 }
 
-/// The line of a text that is read as this statement.
-fn line_of_stmt(alloc: Global, stmt: Stmt) -> Result<Line, NoMemory>
-    ensures { (text : List ℕ) → Reads text stmt → IfOk result (IsLineOf text) }
-{
-    let text = canonical(alloc, &stmt)?;
-    line_again(alloc, text)
-}
-
-/// The line of a text whose statement has this canonical text.
+/// The line of a text whose statement has this canonical text: that is read too, and what it is read as has a canonical
+/// text with which it is compared.
 fn line_again(alloc: Global, text: Str) -> Result<Line, NoMemory>
-    ensures { (s : Stmt) → IsSpoken s → text ≡ canonical_text s → IfOk result (IsLineAgain s) }
+    ensures { (given : List ℕ) (first : Readable) → IsReadableOf given first → text ≡ first.text → IfOk result (IsLineOf given) }
 {
-    match read(alloc, text.as_str().as_bytes()) {
-        Ok(again) => line_if_same(alloc, again, text),
-        Err(ReadFault::Syntax(_)) => Ok(Line::Syntax(MOST_BYTES)),
-        Err(ReadFault::NoMemory) => Err(AllocError),
+    match readable(alloc, text.as_str().as_bytes()) {
+        Ok(again) => Ok(compared(again.into_text(), text)),
+        Err(fault) => line_of_fault(fault),
     }
-}
-
-/// The line of a canonical text, which is read as this statement again.
-fn line_if_same(alloc: Global, again: Stmt, text: Str) -> Result<Line, NoMemory>
-    ensures { IfOk result (IsCompared (canonical_text again) text) }
-{
-    let other = canonical(alloc, &again)?;
-    Ok(compared(other, text))
 }
 
 /// The line of a canonical text, which is read as a statement whose canonical text is the other.

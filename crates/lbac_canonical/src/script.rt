@@ -3,13 +3,14 @@ ghost use Rattle.std.specs.Prelude.{◌≡◌, ◌≤◌, ◌<◌, ◌^◌, Err,
 ghost use Rattle.lb_wire.specs.Causes.{Rose};
 ghost use Rattle.lb_wire.specs.declared.status.Status.TheVariants as statuses;
 ghost use Rattle.lb_split.specs.Pieces.{pieces_of};
+ghost use Rattle.lb_split.specs.Scripts.{text_in};
 ghost use Rattle.lbac_canonical.specs.declared.script.Cut.TheVariants as cuts;
-ghost use Rattle.lbac_canonical.specs.Lines.{IsPut, IsPutPart, IsPrinted, Printed, PrintedPart, statements_in, text_in};
+ghost use Rattle.lbac_canonical.specs.Lines.{IsPut, IsPutPart, IsPrinted, Printed, PrintedPart, statements_in};
 ghost use Rattle.lbac_canonical.specs.Ending.{Ends};
 
 use crate::line::line_of;
 use lb_base::Listing;
-use lb_split::{Piece, Span, Spans, resume, split};
+use lb_split::{Piece, Span, Spans, resume, split, text_at};
 use lb_wire::{NoMemory, ReadFault, Sink, Source, Status, put_all, read_all};
 use std::alloc::Global;
 
@@ -74,21 +75,12 @@ fn put_lines<K: Sink>(alloc: Global, script: &[u8], spans: &[Span], sink: &mut K
     ensures cause { result ≡ Err cuts.WriteFault → Rose (K.faults sink.old) (K.faults sink.new) }
 {
     for span in spans {
-        match put_line(alloc, part(script, *span), sink) {
+        match put_line(alloc, text_at(script, *span), sink) {
             Ok(()) => {}
             Err(cut) => return Err(cut),
         }
     }
     Ok(())
-}
-
-/// What stands between two offsets of the script; offsets past its end are those of the end.
-fn part(script: &[u8], span: Span) -> &[u8]
-    ensures { result.now ≡ text_in script.now span }
-{
-    let to = (span.1 as usize).min(script.len());
-    let from = (span.0 as usize).min(to);
-    &script[from..to]
 }
 
 /// Writes the line of one statement.

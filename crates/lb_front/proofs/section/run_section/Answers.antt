@@ -1,5 +1,5 @@
 use Rattle.std.proofs.Common.{List, ℕ, map, ap}
-use Rattle.lb_front.specs.Scripted.{text_in}
+use Rattle.lb_split.specs.Scripts.{text_in}
 use Rattle.lb_front.proofs.Begun.{is_full, section_shut, section_shut_part}
 use Rattle.lb_front.proofs.section.run_section.Goals as goal
 

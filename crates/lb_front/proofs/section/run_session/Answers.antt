@@ -1,9 +1,10 @@
-use Rattle.std.proofs.Common.{rules, ◌≡◌, ◌+◌, ℕ, List, [], ◌∷◌, ◌++◌, map, take, length, refl, sym, ap, subst, ◌∙◌, arith, w32}
+use Rattle.std.proofs.Common.{rules, ◌≡◌, ℕ, List, map, ◌∙◌, arith, w32}
 use Rattle.std.proofs.lemmas.Int.{to_z-of_z}
 use mir.Val.{to_z, of_z, SFits}
 use Rattle.lb_wire.proofs.Causes.{Rose-after}
-use Rattle.lb_front.specs.Scripted.{text_in}
-use Rattle.lb_front.proofs.Sessions.{mapped_more, mapped_all, opens_at, not_begun, looping_first, looping_on, looping_cut, ended}
+use Rattle.lb_split.specs.Scripts.{text_in}
+use Rattle.lb_split.proofs.Mapped.{mapped_more, mapped_all}
+use Rattle.lb_front.proofs.Sessions.{opens_at, not_begun, looping_first, looping_on, looping_cut, ended}
 use Rattle.lb_front.proofs.section.run_session.Goals as goal
 
 pub returns-in-Err-clause-cut : goal.returns-in-Err-clause-cut
@@ -23,7 +24,7 @@ returns-in-Err-put_block-clause-cut g c =
     let small : SFits w32 c.today-day.result = search rules in
     let same : to_z w32 (of_z w32 c.today-day.result) ≡ c.today-day.result = to_z-of_z w32 c.today-day.result small in
     let all : List (List ℕ) = map (text_in c.args.bytes.now) c.args.statements.now in
-    let more : take (c.loop-span.span-index + 1) all ≡ take c.loop-span.span-index all ++ c.part.result.now ∷ [] = subst (λ (v : List ℕ). take (c.loop-span.span-index + 1) all ≡ take c.loop-span.span-index all ++ v ∷ []) (sym c.part.ensures) (mapped_more (text_in c.args.bytes.now) c.args.statements.now c.loop-span.span-index (0, 0) c.loop-span-test.true) in
+    let more = mapped_more (text_in c.args.bytes.now) c.args.statements.now c.loop-span.span-index (0, 0) c.text_at.result.now c.text_at.ensures c.loop-span-test.true in
     looping_cut _ _ _ _ _ _ _ _ _ _ all c.loop-span.span-index _ _ _ _ _ _ _ _ _ _ _ _ _ _ c.loop-span.invariant more c.execute-answer.ensures.ran c.execute-answer.ensures.stands c.execute-answer.ensures.limit
     (rw same c.today-day.ensures.days) c.in-Err-put_block.ensures.part
 
@@ -47,7 +48,7 @@ loop-span-preserved g c =
     let small : SFits w32 c.today-day.result = search rules in
     let same : to_z w32 (of_z w32 c.today-day.result) ≡ c.today-day.result = to_z-of_z w32 c.today-day.result small in
     let all : List (List ℕ) = map (text_in c.args.bytes.now) c.args.statements.now in
-    let more : take (c.loop-span.span-index + 1) all ≡ take c.loop-span.span-index all ++ c.part.result.now ∷ [] = subst (λ (v : List ℕ). take (c.loop-span.span-index + 1) all ≡ take c.loop-span.span-index all ++ v ∷ []) (sym c.part.ensures) (mapped_more (text_in c.args.bytes.now) c.args.statements.now c.loop-span.span-index (0, 0) c.loop-span-test.true) in
+    let more = mapped_more (text_in c.args.bytes.now) c.args.statements.now c.loop-span.span-index (0, 0) c.text_at.result.now c.text_at.ensures c.loop-span-test.true in
     looping_on _ _ _ _ _ _ _ _ _ _ all c.loop-span.span-index _ _ _ _ _ _ _ _ _ _ _ _ _ _ _ _ c.loop-span.invariant more c.execute-answer.ensures.ran c.execute-answer.ensures.stands c.execute-answer.ensures.seated c.execute-answer.ensures.limit c.execute-answer.ensures.sessions
     (rw same c.today-day.ensures.days) c.in-Ok-put_block.ensures.ok c.put_block.ensures.later
 

@@ -1,7 +1,7 @@
-use Rattle.std.proofs.Common.{◌≡◌, ◌+◌, ℕ, List, [], ◌∷◌, ◌++◌, map, take, sym, subst, arith}
+use Rattle.std.proofs.Common.{ℕ, List, map, arith}
 use Rattle.lb_wire.proofs.Causes.{Rose-after}
-use Rattle.lb_front.specs.Scripted.{text_in}
-use Rattle.lb_front.proofs.Sessions.{mapped_more, mapped_all}
+use Rattle.lb_split.specs.Scripts.{text_in}
+use Rattle.lb_split.proofs.Mapped.{mapped_more, mapped_all}
 use Rattle.lb_front.proofs.Shut.{shut_first, shut_not_begun, shut_on, shut_cut, shut_ended}
 use Rattle.lb_front.proofs.section.run_shut.Goals as goal
 
@@ -14,7 +14,7 @@ loop-span-init g c = shut_first _ (map (text_in c.args.bytes.now) c.args.stateme
 pub returns-in-Err-put_block-clause-cut : goal.returns-in-Err-put_block-clause-cut
 returns-in-Err-put_block-clause-cut g c =
     let all : List (List ℕ) = map (text_in c.args.bytes.now) c.args.statements.now in
-    let more : take (c.loop-span.span-index + 1) all ≡ take c.loop-span.span-index all ++ c.part.result.now ∷ [] = subst (λ (v : List ℕ). take (c.loop-span.span-index + 1) all ≡ take c.loop-span.span-index all ++ v ∷ []) (sym c.part.ensures) (mapped_more (text_in c.args.bytes.now) c.args.statements.now c.loop-span.span-index (0, 0) c.loop-span-test.true) in
+    let more = mapped_more (text_in c.args.bytes.now) c.args.statements.now c.loop-span.span-index (0, 0) c.text_at.result.now c.text_at.ensures c.loop-span-test.true in
     shut_cut _ all c.loop-span.span-index _ _ _ _ _ _ _ c.loop-span.invariant more c.shut-answer.ensures c.in-Err-put_block.ensures.part
 
 pub returns-in-Err-put_block-clause-cause : goal.returns-in-Err-put_block-clause-cause
@@ -26,7 +26,7 @@ returns-in-Err-put_block-clause-later g c = let h = c.loop-span.invariant.later 
 pub loop-span-preserved : goal.loop-span-preserved
 loop-span-preserved g c =
     let all : List (List ℕ) = map (text_in c.args.bytes.now) c.args.statements.now in
-    let more : take (c.loop-span.span-index + 1) all ≡ take c.loop-span.span-index all ++ c.part.result.now ∷ [] = subst (λ (v : List ℕ). take (c.loop-span.span-index + 1) all ≡ take c.loop-span.span-index all ++ v ∷ []) (sym c.part.ensures) (mapped_more (text_in c.args.bytes.now) c.args.statements.now c.loop-span.span-index (0, 0) c.loop-span-test.true) in
+    let more = mapped_more (text_in c.args.bytes.now) c.args.statements.now c.loop-span.span-index (0, 0) c.text_at.result.now c.text_at.ensures c.loop-span-test.true in
     shut_on _ all c.loop-span.span-index _ _ _ _ _ _ _ _ c.loop-span.invariant more c.shut-answer.ensures c.in-Ok-put_block.ensures.ok c.put_block.ensures.later
 
 pub returns-clause-ran : goal.returns-clause-ran

@@ -1,5 +1,5 @@
 use Rattle.std.proofs.Common.{take, map}
-use Rattle.lb_front.specs.Scripted.{text_in}
+use Rattle.lb_split.specs.Scripts.{text_in}
 use Rattle.lb_front.specs.Running.{ShutLoops}
 use Rattle.lb_front.proofs.section.run_shut.Given as goal
 

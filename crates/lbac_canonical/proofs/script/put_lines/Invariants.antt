@@ -1,5 +1,6 @@
 use Rattle.std.proofs.Common.{◌≤◌, map, take}
-use Rattle.lbac_canonical.specs.Lines.{text_in, Printed}
+use Rattle.lb_split.specs.Scripts.{text_in}
+use Rattle.lbac_canonical.specs.Lines.{Printed}
 use Rattle.lbac_canonical.proofs.script.put_lines.Given as goal
 
 -- the lines so far were written, and the sink's count of faults did not fall

@@ -6,11 +6,11 @@ use Rattle.lb_front.proofs.book.Book.prepare.Goals as goal
 
 pub returns-then-is_unbuilt-clause-stopped : goal.returns-then-is_unbuilt-clause-stopped
 returns-then-is_unbuilt-clause-stopped c =
-    stopped_unbuilt c.args.self.now.journal.items c.args.self.now.limit c.args.self.now.store c.args.session.now.user c.args.text.now c.in_ok-stmt.field-0.stmt c.in_ok-stmt.ensures.ok.reads (c.is_unbuilt.ensures.0 c.if-is_unbuilt.true)
+    stopped_unbuilt c.args.self.now.journal.items c.args.self.now.limit c.args.self.now.store c.args.session.now.user c.args.text.now c.in_ok-stmt.field-0.stmt c.in_ok-stmt.ensures.read.reads (c.is_unbuilt.ensures.0 c.if-is_unbuilt.true)
 
 pub returns-then-len-self-clause-stopped : goal.returns-then-len-self-clause-stopped
 returns-then-len-self-clause-stopped c =
-    stopped_full c.args.self.now.journal.items c.args.self.now.limit c.args.self.now.store c.args.session.now.user c.args.text.now c.in_ok-stmt.field-0.stmt c.requires.stands c.in_ok-stmt.ensures.ok.reads
+    stopped_full c.args.self.now.journal.items c.args.self.now.limit c.args.self.now.store c.args.session.now.user c.args.text.now c.in_ok-stmt.field-0.stmt c.requires.stands c.in_ok-stmt.ensures.read.reads
     (λ u. no_truth c.is_unbuilt.result (c.is_unbuilt.ensures.1 u) c.if-is_unbuilt.false)
     (omega (arith, c.len.ensures, c.if-len-self.true))
 
@@ -20,10 +20,10 @@ returns-clause-ready c =
     let e : to_z w32 (of_z w32 c.args.day) ≡ c.args.day = to_z-of_z w32 c.args.day small in
     record {
       built = record {
-        reads = c.in_ok-stmt.ensures.ok.reads;
+        reads = c.in_ok-stmt.ensures.read.reads;
         built = λ u. no_truth c.is_unbuilt.result (c.is_unbuilt.ensures.1 u) c.if-is_unbuilt.false;
       };
       rows = c.in_ok-rows.ensures;
-      said = rw (← c.in_ok-stmt.ensures.ok.canonical_text) (rw e at c.in_ok-said.ensures);
+      said = rw (← c.in_ok-stmt.ensures.read.canonical_text) (rw e at c.in_ok-said.ensures);
       room = omega (arith, c.len.ensures, c.if-len-self.false);
     }
