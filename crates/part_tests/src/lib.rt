@@ -10,6 +10,8 @@ mod entries;
 #[cfg(test)]
 mod read;
 #[cfg(test)]
+mod readable;
+#[cfg(test)]
 mod split;
 #[cfg(test)]
 mod tok;

@@ -1,5 +1,5 @@
 // Scripts, and the sections and pieces that they have.
-use lb_split::{Piece, ScriptFault, Section, resume, sections, split};
+use lb_split::{Piece, ScriptFault, Section, Span, resume, sections, split, text_at};
 use std::alloc::{AllocError, Global};
 
 /// The sections as a text: a line for each, with its kind, user and groups, and behind each `|` a statement.
@@ -39,16 +39,13 @@ fn add_section(
     }
     for span in section.statements.as_slice() {
         out.push_str("|")?;
-        out.push_str(text_of(script, span.0, span.1))?;
+        out.push_str(text_of(script, *span))?;
     }
     out.push_str("\n")
 }
 
-fn text_of(script: &[u8], from: u32, to: u32) -> &str {
-    match script.get(from as usize..to as usize) {
-        Some(bytes) => std::str::from_utf8(bytes).unwrap_or("?"),
-        None => "?",
-    }
+fn text_of(script: &[u8], span: Span) -> &str {
+    std::str::from_utf8(text_at(script, span)).unwrap_or("?")
 }
 
 const SIXTEEN: &str = "G1 G2 G3 G4 G5 G6 G7 G8 G9 G10 G11 G12 G13 G14 G15 G16";
