@@ -81,9 +81,11 @@ pub enum Refusal {
     Overflow,
     /// A query that has to give one value gives several rows.
     ManyRows,
-    /// What is to be dropped is used by another: its name, and the user's.
+    /// What is to be dropped is used: its name, and the name of what uses it.
     InUse(Str, Str),
-    /// The text of a label goes wrong at this byte, counted from 0.
+    /// The text of a label goes wrong at this byte, counted from 0. Of CREATE SECURITY LABEL COMPONENT, the element with this
+    /// number is no text of an element; of CREATE SECURITY LABEL, the component with this number would have two elements of
+    /// an ARRAY; both counted from 0.
     BadLabel(u32),
     /// The labels for reading and writing don't agree in the component.
     GrantMismatch(Str),
@@ -95,7 +97,8 @@ pub enum Refusal {
     NullValue(Str, Str),
     /// The column of the table takes at most so many bytes.
     TooWide(Str, Str, u32),
-    /// The permission or mask may not read the table, since row or column access control is active on it or it is protected by labels.
+    /// A subquery of the permission or mask reads a table that it may not read, the protected table itself or one with a
+    /// label column: the name of the permission or mask, and that of the table.
     BadSource(Str, Str),
     /// What is wrong with the column.
     BadTable(Str, Flaw),
