@@ -1,6 +1,6 @@
 -- A statement that is to be run, and why one is not.
 use Rattle.std.specs.Prelude.{ℕ, ℤ, ◌≡◌, ◌<◌, ◌⊎◌, true, List, length}
-use Rattle.lb_base.specs.declared.write.Stmt.{Stmt}
+use Rattle.lb_stmt.specs.declared.write.Stmt.{Stmt}
 use Rattle.lb_tok.specs.declared.lex.ReadFault.{ReadFault}
 use Rattle.lb_tok.specs.declared.lex.ReadFault.TheVariants as faults
 use Rattle.lb_tok.specs.Canonical.{canonical}

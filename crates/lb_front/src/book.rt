@@ -12,10 +12,11 @@ ghost use Rattle.lb_front.specs.Executed.{Executed, Added};
 ghost use Rattle.lb_front.specs.Prepared.{IsReady, IsStopped, Did};
 
 use crate::stop::{Stop, unplaced};
-use lb_base::{Name, Names, NoMemory, RowList, Stmt, Str};
+use lb_base::{Name, Names, NoMemory, RowList, Str};
 use lb_model::{Answer, Entry, Mark, Reply, Said};
 use lb_readable::{Readable, readable};
 use lb_refr::{Store, given_rows};
+use lb_stmt::Stmt;
 use std::alloc::{AllocError, Global};
 
 /// A session that was opened.

@@ -5,7 +5,7 @@ use Rattle.std.specs.Prelude.{ℤ, slice_get, ◌==◌}
 use Rattle.std.proofs.lemmas.Bool.Decides.{nat_tests}
 use Rattle.std.proofs.lemmas.Option.{slice_get_within, get_or_from_slice_get}
 use Rattle.std.proofs.lemmas.List.{append-nil, length-append, length-take-le, take_all, take_more}
-use Rattle.lb_base.specs.declared.write.Stmt.{Stmt}
+use Rattle.lb_stmt.specs.declared.write.Stmt.{Stmt}
 use Rattle.lb_tok.specs.Canonical.{canonical}
 use Rattle.lb_model.proofs.There.{made_at}
 use Rattle.lb_model.specs.declared.entry.Entry.{Entry}

@@ -1,6 +1,6 @@
 -- What is known of the reader, as far as the laws of this crate need it.
 use Rattle.std.proofs.Common.{◌≡◌, ℕ, List, inl, inr, subst, sym, ◌∙◌}
-use Rattle.lb_base.specs.declared.write.Stmt.{Stmt}
+use Rattle.lb_stmt.specs.declared.write.Stmt.{Stmt}
 use Rattle.lb_tok.specs.Canonical.{canonical}
 use Rattle.lb_tok.specs.Spelled.{IsSpoken}
 use Rattle.lb_tok.specs.Syntax.{Reads, GoesWrong, IsBeyond, IsReadable, IsSyntaxAt}

@@ -6,26 +6,26 @@ use Rattle.lb_base.specs.declared.key.Key.{Key}
 use Rattle.lb_base.specs.declared.key.Key.TheVariants as keys
 use Rattle.lb_base.specs.declared.key.Ty.{Ty}
 use Rattle.lb_base.specs.declared.key.Ty.TheVariants as types
-use Rattle.lb_base.specs.declared.query.Atom.{Atom}
-use Rattle.lb_base.specs.declared.query.Atom.TheVariants as atoms
-use Rattle.lb_base.specs.declared.query.Column.{Column}
-use Rattle.lb_base.specs.declared.query.Expr.{Expr}
-use Rattle.lb_base.specs.declared.query.Expr.TheVariants as exprs
-use Rattle.lb_base.specs.declared.query.Cond.{Cond}
-use Rattle.lb_base.specs.declared.query.Cond.TheVariants as conds
-use Rattle.lb_base.specs.declared.query.Cond.TheOpen as layers
-use Rattle.lb_base.specs.declared.query.Cond.TheViews.{out-Expr, out-Cond}
-use Rattle.lb_base.specs.declared.change.ColumnDef.{ColumnDef}
-use Rattle.lb_base.specs.declared.change.ColumnType.{ColumnType}
-use Rattle.lb_base.specs.declared.change.ColumnType.TheVariants as column_types
-use Rattle.lb_base.specs.declared.change.PlainType.TheVariants as plains
-use Rattle.lb_base.specs.declared.change.Element.{Element}
-use Rattle.lb_base.specs.declared.change.Element.TheVariants as elements
-use Rattle.lb_base.specs.declared.change.PermissionDef.{PermissionDef}
-use Rattle.lb_base.specs.declared.change.Switch.{Switch}
-use Rattle.lb_base.specs.declared.change.Switch.TheVariants as switches
-use Rattle.lb_base.specs.declared.change.Change.{Change}
-use Rattle.lb_base.specs.declared.change.Change.TheVariants as changes
+use Rattle.lb_tree.specs.declared.query.Atom.{Atom}
+use Rattle.lb_tree.specs.declared.query.Atom.TheVariants as atoms
+use Rattle.lb_tree.specs.declared.query.Column.{Column}
+use Rattle.lb_tree.specs.declared.query.Expr.{Expr}
+use Rattle.lb_tree.specs.declared.query.Expr.TheVariants as exprs
+use Rattle.lb_tree.specs.declared.query.Cond.{Cond}
+use Rattle.lb_tree.specs.declared.query.Cond.TheVariants as conds
+use Rattle.lb_tree.specs.declared.query.Cond.TheOpen as layers
+use Rattle.lb_tree.specs.declared.query.Cond.TheViews.{out-Expr, out-Cond}
+use Rattle.lb_stmt.specs.declared.change.ColumnDef.{ColumnDef}
+use Rattle.lb_stmt.specs.declared.change.ColumnType.{ColumnType}
+use Rattle.lb_stmt.specs.declared.change.ColumnType.TheVariants as column_types
+use Rattle.lb_stmt.specs.declared.change.PlainType.TheVariants as plains
+use Rattle.lb_stmt.specs.declared.change.Element.{Element}
+use Rattle.lb_stmt.specs.declared.change.Element.TheVariants as elements
+use Rattle.lb_stmt.specs.declared.change.PermissionDef.{PermissionDef}
+use Rattle.lb_stmt.specs.declared.change.Switch.{Switch}
+use Rattle.lb_stmt.specs.declared.change.Switch.TheVariants as switches
+use Rattle.lb_stmt.specs.declared.change.Change.{Change}
+use Rattle.lb_stmt.specs.declared.change.Change.TheVariants as changes
 use Rattle.lb_model.specs.declared.catalog.ColumnRec.{ColumnRec}
 use Rattle.lb_model.specs.declared.catalog.PermissionRec.{PermissionRec}
 use Rattle.lb_model.specs.declared.catalog.TableRec.{TableRec}

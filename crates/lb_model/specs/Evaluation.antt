@@ -6,22 +6,22 @@ use Rattle.lb_base.specs.declared.value.Value.{Value}
 use Rattle.lb_base.specs.declared.value.Value.TheVariants as values
 use Rattle.lb_base.specs.declared.truth.Truth.{Truth}
 use Rattle.lb_base.specs.declared.truth.Truth.TheVariants as truths
-use Rattle.lb_base.specs.declared.query.Expr.{Expr}
-use Rattle.lb_base.specs.declared.query.Cond.{Cond}
-use Rattle.lb_base.specs.declared.query.Item.{Item}
-use Rattle.lb_base.specs.declared.query.Join.{Join}
-use Rattle.lb_base.specs.declared.query.Arm.{Arm}
-use Rattle.lb_base.specs.declared.query.Chain.{Chain}
-use Rattle.lb_base.specs.declared.query.Choice.{Choice}
-use Rattle.lb_base.specs.declared.query.Query.{Query}
-use Rattle.lb_base.specs.declared.query.Signed.{Signed}
-use Rattle.lb_base.specs.declared.query.Cond.TheOpen as layers
-use Rattle.lb_base.specs.declared.query.Cond.TheViews.{out-Expr, out-Cond}
-use Rattle.lb_base.specs.declared.query.Atom.{Atom}
-use Rattle.lb_base.specs.declared.query.Atom.TheVariants as atoms
-use Rattle.lb_base.specs.declared.query.Column.{Column}
-use Rattle.lb_base.specs.declared.query.Comparison.{Comparison}
-use Rattle.lb_base.specs.declared.query.Comparison.TheVariants as comparisons
+use Rattle.lb_tree.specs.declared.query.Expr.{Expr}
+use Rattle.lb_tree.specs.declared.query.Cond.{Cond}
+use Rattle.lb_tree.specs.declared.query.Item.{Item}
+use Rattle.lb_tree.specs.declared.query.Join.{Join}
+use Rattle.lb_tree.specs.declared.query.Arm.{Arm}
+use Rattle.lb_tree.specs.declared.query.Chain.{Chain}
+use Rattle.lb_tree.specs.declared.query.Choice.{Choice}
+use Rattle.lb_tree.specs.declared.query.Query.{Query}
+use Rattle.lb_tree.specs.declared.query.Signed.{Signed}
+use Rattle.lb_tree.specs.declared.query.Cond.TheOpen as layers
+use Rattle.lb_tree.specs.declared.query.Cond.TheViews.{out-Expr, out-Cond}
+use Rattle.lb_tree.specs.declared.query.Atom.{Atom}
+use Rattle.lb_tree.specs.declared.query.Atom.TheVariants as atoms
+use Rattle.lb_tree.specs.declared.query.Column.{Column}
+use Rattle.lb_tree.specs.declared.query.Comparison.{Comparison}
+use Rattle.lb_tree.specs.declared.query.Comparison.TheVariants as comparisons
 use Rattle.lb_model.specs.declared.catalog.ColumnRec.{ColumnRec}
 
 -- a column of a row, under the correlation name of its table

@@ -2,26 +2,26 @@
 use Rattle.std.specs.Prelude.{ℕ, ◌≡◌, ◌≤◌, pos, Bool, true, false, not, ◌&&◌, List, [], ◌∷◌, map, length, None}
 use Rattle.std.specs.List.{list_any, AllByRecursion}
 use Rattle.std.specs.Str.{bytes_eq}
-use Rattle.lb_base.specs.declared.query.Comparison.TheVariants as comparisons
-use Rattle.lb_base.specs.declared.query.Atom.TheVariants as atoms
-use Rattle.lb_base.specs.declared.query.Expr.{Expr}
-use Rattle.lb_base.specs.declared.query.Expr.TheVariants as exprs
-use Rattle.lb_base.specs.declared.query.Cond.{Cond}
-use Rattle.lb_base.specs.declared.query.Cond.TheVariants as conds
-use Rattle.lb_base.specs.declared.query.Cond.TheViews.{roll-Query, roll-Chain}
-use Rattle.lb_base.specs.declared.query.Item.TheVariants as items
-use Rattle.lb_base.specs.declared.query.Query.{Query}
-use Rattle.lb_base.specs.declared.query.Tab.{Tab}
-use Rattle.lb_base.specs.declared.write.InsertSource.TheVariants as sources
-use Rattle.lb_base.specs.declared.write.Stmt.{Stmt}
-use Rattle.lb_base.specs.declared.write.Stmt.TheVariants as stmts
-use Rattle.lb_base.specs.declared.change.PlainType.TheVariants as plains
-use Rattle.lb_base.specs.declared.change.ColumnType.TheVariants as types
-use Rattle.lb_base.specs.declared.change.Element.{Element}
-use Rattle.lb_base.specs.declared.change.Element.TheVariants as elements
-use Rattle.lb_base.specs.declared.change.Switch.TheVariants as switches
-use Rattle.lb_base.specs.declared.change.ControlOf.TheVariants as controls
-use Rattle.lb_base.specs.declared.change.Change.TheVariants as changes
+use Rattle.lb_tree.specs.declared.query.Comparison.TheVariants as comparisons
+use Rattle.lb_tree.specs.declared.query.Atom.TheVariants as atoms
+use Rattle.lb_tree.specs.declared.query.Expr.{Expr}
+use Rattle.lb_tree.specs.declared.query.Expr.TheVariants as exprs
+use Rattle.lb_tree.specs.declared.query.Cond.{Cond}
+use Rattle.lb_tree.specs.declared.query.Cond.TheVariants as conds
+use Rattle.lb_tree.specs.declared.query.Cond.TheViews.{roll-Query, roll-Chain}
+use Rattle.lb_tree.specs.declared.query.Item.TheVariants as items
+use Rattle.lb_tree.specs.declared.query.Query.{Query}
+use Rattle.lb_tree.specs.declared.query.Tab.{Tab}
+use Rattle.lb_stmt.specs.declared.write.InsertSource.TheVariants as sources
+use Rattle.lb_stmt.specs.declared.write.Stmt.{Stmt}
+use Rattle.lb_stmt.specs.declared.write.Stmt.TheVariants as stmts
+use Rattle.lb_stmt.specs.declared.change.PlainType.TheVariants as plains
+use Rattle.lb_stmt.specs.declared.change.ColumnType.TheVariants as types
+use Rattle.lb_stmt.specs.declared.change.Element.{Element}
+use Rattle.lb_stmt.specs.declared.change.Element.TheVariants as elements
+use Rattle.lb_stmt.specs.declared.change.Switch.TheVariants as switches
+use Rattle.lb_stmt.specs.declared.change.ControlOf.TheVariants as controls
+use Rattle.lb_stmt.specs.declared.change.Change.TheVariants as changes
 
 -- no name stands twice
 abbrev pub are_different : List (List ℕ) → Bool

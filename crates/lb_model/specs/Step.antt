@@ -3,8 +3,8 @@ use Rattle.std.specs.Prelude.{ℕ, ℤ, Bool, true, false, ◌+◌, ◌||◌, �
 use Rattle.std.specs.Str.{bytes_eq}
 use Rattle.lb_base.specs.declared.key.Key.{Key}
 use Rattle.lb_base.specs.declared.key.Key.TheVariants as keys
-use Rattle.lb_base.specs.declared.write.Stmt.{Stmt}
-use Rattle.lb_base.specs.declared.write.Stmt.TheVariants as stmts
+use Rattle.lb_stmt.specs.declared.write.Stmt.{Stmt}
+use Rattle.lb_stmt.specs.declared.write.Stmt.TheVariants as stmts
 use Rattle.lb_model.specs.declared.catalog.TableVersion.{TableVersion}
 use Rattle.lb_model.specs.declared.reply.Reply.{Reply}
 use Rattle.lb_model.specs.Catalog.{Cat, Tables, put_maybe}

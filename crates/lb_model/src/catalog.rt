@@ -1,5 +1,6 @@
 // The records of the catalogue, and the rows of a table.
-use lb_base::{Cond, Listing, Name, RowList, Ty};
+use lb_base::{Listing, Name, RowList, Ty};
+use lb_tree::Cond;
 
 /// A column of a table.
 #[derive(Drop)]

@@ -3,7 +3,7 @@ use Rattle.std.proofs.Common.{Bool, ◌≡◌, ℕ, ◌+◌, ◌<◌, List, [], 
 use Rattle.std.specs.List.{flat_map}
 use Rattle.std.proofs.lemmas.List.{take_more, append-nil}
 use Rattle.std.proofs.lemmas.List.Concat.{flat_map-append}
-use Rattle.lb_base.specs.declared.query.Signed.{Signed}
+use Rattle.lb_tree.specs.declared.query.Signed.{Signed}
 use Rattle.lb_tok.specs.declared.kind.Kind.{Kind}
 use Rattle.lb_tok.specs.Spacing.{Piece, mark, Layout, lay, laid}
 use Rattle.lb_tok.specs.QueryPieces.{behind, separated, Phrase, at_least, sign_kind, signed, signed_part, sum_pieces, expr_phrase}

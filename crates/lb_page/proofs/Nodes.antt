@@ -3,20 +3,20 @@ use Rattle.std.proofs.Common.{◌≡◌, refl, ap, sym, ◌∙◌, ℕ, List, []
 use Rattle.std.specs.Prelude.{nat_le}
 use Rattle.std.specs.List.{flat_map}
 use Rattle.std.proofs.lemmas.Bool.Decides.{nat_tests}
-use Rattle.lb_base.specs.declared.query.Comparison.{Comparison}
-use Rattle.lb_base.specs.declared.query.Aggregate.{Aggregate}
-use Rattle.lb_base.specs.declared.query.Function.{Function}
-use Rattle.lb_base.specs.declared.query.Atom.{Atom}
-use Rattle.lb_base.specs.declared.query.Column.{Column}
-use Rattle.lb_base.specs.declared.query.Expr.{Expr}
-use Rattle.lb_base.specs.declared.query.Expr.TheVariants as exprs
-use Rattle.lb_base.specs.declared.query.Cond.{Cond}
-use Rattle.lb_base.specs.declared.query.Cond.TheVariants as conds
-use Rattle.lb_base.specs.declared.query.Arm.{Arm}
-use Rattle.lb_base.specs.declared.query.Choice.{Choice}
-use Rattle.lb_base.specs.declared.query.Query.{Query}
-use Rattle.lb_base.specs.declared.query.Signed.{Signed}
-use Rattle.lb_base.specs.declared.query.SortKey.{SortKey}
+use Rattle.lb_tree.specs.declared.query.Comparison.{Comparison}
+use Rattle.lb_tree.specs.declared.query.Aggregate.{Aggregate}
+use Rattle.lb_tree.specs.declared.query.Function.{Function}
+use Rattle.lb_tree.specs.declared.query.Atom.{Atom}
+use Rattle.lb_tree.specs.declared.query.Column.{Column}
+use Rattle.lb_tree.specs.declared.query.Expr.{Expr}
+use Rattle.lb_tree.specs.declared.query.Expr.TheVariants as exprs
+use Rattle.lb_tree.specs.declared.query.Cond.{Cond}
+use Rattle.lb_tree.specs.declared.query.Cond.TheVariants as conds
+use Rattle.lb_tree.specs.declared.query.Arm.{Arm}
+use Rattle.lb_tree.specs.declared.query.Choice.{Choice}
+use Rattle.lb_tree.specs.declared.query.Query.{Query}
+use Rattle.lb_tree.specs.declared.query.Signed.{Signed}
+use Rattle.lb_tree.specs.declared.query.SortKey.{SortKey}
 use Rattle.lb_tok.specs.declared.kind.Kind.TheVariants as kinds
 use Rattle.lb_tok.specs.Spacing.{Piece, mark, opening, Layout, lay, laid}
 use Rattle.lb_tok.specs.QueryPieces.{separated, listed, parens, clause, option_of, atom_pieces, Phrase, enclosed, at_least, sum_pieces, else_pieces, aggregate_front, function_kind, comparison_kind, column_pieces, group_pieces, key_pieces, order_pieces, expr_phrase, expr_pieces, cond_phrase, cond_pieces, query_pieces, arm_pieces, choice_pieces, signed_part}

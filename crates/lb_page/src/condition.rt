@@ -10,8 +10,9 @@ use crate::list::separator;
 use crate::page::Page;
 use crate::query::query;
 use crate::word::comparison;
-use lb_base::{Cond, NoMemory, Query};
+use lb_base::NoMemory;
 use lb_tok::Kind;
+use lb_tree::{Cond, Query};
 use sqlite_items::Boxed;
 
 // How tightly the condition holds together: 0 for a list of OR, 1 for one of AND, 2 for NOT, else 3.

@@ -11,8 +11,9 @@ use crate::condition::cond;
 use crate::list::{column, more_texts, separator};
 use crate::page::Page;
 use crate::word::{function, sign};
-use lb_base::{Aggregate, Arm, Atom, Choice, Expr, NoMemory, Signed, Str};
+use lb_base::{NoMemory, Str};
 use lb_tok::Kind;
+use lb_tree::{Aggregate, Arm, Atom, Choice, Expr, Signed};
 use sqlite_items::Boxed;
 
 // How tightly the expression holds together: 0 for a list of `+` and `-`, 1 for one of `||`, 2 for one of `*`, else 3.

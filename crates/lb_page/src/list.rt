@@ -7,8 +7,9 @@ ghost use Rattle.lb_tok.specs.QueryPieces.{alias_pieces, behind, column_pieces, 
 ghost use Rattle.lb_page.specs.Separator.{separator as separator_pieces};
 
 use crate::page::Page;
-use lb_base::{Column, Name, NoMemory, Str, Tab};
+use lb_base::{Name, NoMemory, Str};
 use lb_tok::Kind;
+use lb_tree::{Column, Tab};
 
 /// Lays what stands before the part at a place, counted from 0: nothing before the first, the symbol before each other.
 pub fn separator(page: &mut Page, kind: Kind, place: usize) -> Result<(), NoMemory>

@@ -10,8 +10,9 @@ use crate::condition::{cond, cond_clause};
 use crate::expression::expr;
 use crate::list::{alias, flag, group, separator, tab};
 use crate::page::Page;
-use lb_base::{Chain, Direction, Item, Join, NoMemory, Query, Select, SortKey};
+use lb_base::NoMemory;
 use lb_tok::Kind;
+use lb_tree::{Chain, Direction, Item, Join, Query, Select, SortKey};
 
 /// Lays a query.
 #[cycle(prints)]

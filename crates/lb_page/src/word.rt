@@ -3,8 +3,8 @@
 ghost use Rattle.std.specs.Prelude.{◌≡◌};
 ghost use Rattle.lb_tok.specs.QueryPieces.{comparison_kind, function_kind, sign_kind};
 
-use lb_base::{Comparison, Function};
 use lb_tok::Kind;
+use lb_tree::{Comparison, Function};
 
 /// The symbol of a comparison.
 pub fn comparison(by: Comparison) -> Kind

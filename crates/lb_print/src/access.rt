@@ -7,8 +7,9 @@ ghost use Rattle.lb_tok.specs.Spacing.{laid};
 
 use crate::keyword::{named, switched, words};
 use crate::word::switch;
-use lb_base::{Change, MaskDef, Name, NoMemory, PermissionDef, Switch};
+use lb_base::{Name, NoMemory};
 use lb_page::{Page, cond, expr, tab};
+use lb_stmt::{Change, MaskDef, PermissionDef, Switch};
 use lb_tok::Kind;
 
 fn replace(page: &mut Page, meant: bool) -> Result<(), NoMemory>

@@ -15,8 +15,9 @@ use crate::label::{create_component, create_label, create_policy, drop_component
 use crate::table::{
     activate, add_column, add_policy, create_table, secure_column, unsecure_column,
 };
-use lb_base::{Change, NoMemory};
+use lb_base::NoMemory;
 use lb_page::Page;
+use lb_stmt::Change;
 use lb_tok::Kind;
 
 /// Lays a statement that changes the catalogue.

@@ -8,8 +8,9 @@ ghost use Rattle.lb_tok.specs.Spacing.{laid};
 
 use crate::keyword::{labelled, named, to_user, with_user, words};
 use crate::word::{access, right};
-use lb_base::{Access, Change, Grantee, LabelName, Name, NoMemory, RuleName, TableRight};
+use lb_base::{Name, NoMemory};
 use lb_page::{Page, separator};
+use lb_stmt::{Access, Change, Grantee, LabelName, RuleName, TableRight};
 use lb_tok::Kind;
 use sqlite_items::Items;
 

@@ -6,8 +6,9 @@ ghost use Rattle.lb_tok.specs.ChangePieces.{label_piece, switch_kind, user_piece
 ghost use Rattle.lb_tok.specs.Spacing.{laid, mark as mark_piece, name as name_piece};
 
 use crate::word::switch;
-use lb_base::{LabelName, Name, NoMemory, Switch};
+use lb_base::{Name, NoMemory};
 use lb_page::Page;
+use lb_stmt::{LabelName, Switch};
 use lb_tok::Kind;
 
 /// Lays keywords and symbols one behind the other.

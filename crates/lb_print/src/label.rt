@@ -9,10 +9,9 @@ ghost use Rattle.lb_tok.specs.Spacing.{laid};
 
 use crate::keyword::{labelled, named, words};
 use crate::word::write_option;
-use lb_base::{
-    Change, ComponentDef, LabelName, LabelPart, Name, NoMemory, PolicyDef, Str, TreeElement,
-};
+use lb_base::{Name, NoMemory, Str};
 use lb_page::{Page, names, separator, texts};
+use lb_stmt::{Change, ComponentDef, LabelName, LabelPart, PolicyDef, TreeElement};
 use lb_tok::Kind;
 
 /// Lays CREATE SECURITY LABEL COMPONENT.

@@ -7,8 +7,9 @@ ghost use Rattle.lb_tok.specs.Spacing.{laid};
 
 use crate::change::change;
 use crate::write::{delete, insert, update};
-use lb_base::{NoMemory, Stmt, Str};
+use lb_base::{NoMemory, Str};
 use lb_page::{Page, select};
+use lb_stmt::Stmt;
 use std::alloc::Global;
 
 /// The canonical text of a statement. The only error is want of memory.

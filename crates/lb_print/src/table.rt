@@ -8,8 +8,9 @@ ghost use Rattle.lb_tok.specs.Spacing.{laid};
 
 use crate::keyword::{named, words};
 use crate::word::{activation, control};
-use lb_base::{Activation, Change, ColumnDef, ColumnType, Element, Name, NoMemory, PlainType};
+use lb_base::{Name, NoMemory};
 use lb_page::{Page, separator};
+use lb_stmt::{Activation, Change, ColumnDef, ColumnType, Element, PlainType};
 use lb_tok::Kind;
 use sqlite_items::Items;
 

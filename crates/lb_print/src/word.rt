@@ -3,7 +3,7 @@
 ghost use Rattle.std.specs.Prelude.{◌≡◌};
 ghost use Rattle.lb_tok.specs.ChangePieces.{switch_kind, access_kind, activate_kind, control_kind, right_kind, write_option_kind};
 
-use lb_base::{Access, ControlOf, Switch, TableRight, WriteOption};
+use lb_stmt::{Access, ControlOf, Switch, TableRight, WriteOption};
 use lb_tok::Kind;
 
 /// ACTIVATE or DEACTIVATE.

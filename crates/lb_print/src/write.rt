@@ -6,9 +6,11 @@ ghost use Rattle.lb_tok.specs.Canonical.{assignment_pieces, delete_pieces, inser
 ghost use Rattle.lb_tok.specs.QueryPieces.{listed, where_pieces};
 ghost use Rattle.lb_tok.specs.Spacing.{laid};
 
-use lb_base::{Assignment, Cond, Delete, Expr, Insert, InsertSource, Name, NoMemory, Update};
+use lb_base::{Name, NoMemory};
 use lb_page::{Page, cond, expr, exprs, names, select, separator, tab};
+use lb_stmt::{Assignment, Delete, Insert, InsertSource, Update};
 use lb_tok::Kind;
+use lb_tree::{Cond, Expr};
 use sqlite_items::Items;
 
 /// Lays INSERT.

@@ -1,7 +1,7 @@
 -- What is said of a definition, or of a query or write, holds of all statements where the first token says which it is.
 use Rattle.std.proofs.Common.{Bool, ◌≡◌, Result, Ok, Err}
 use Rattle.std.specs.Prelude.{IfOk, IfErr}
-use Rattle.lb_base.specs.declared.write.Stmt.{Stmt}
+use Rattle.lb_stmt.specs.declared.write.Stmt.{Stmt}
 use Rattle.lb_tok.specs.declared.token.Tokens.{Tokens}
 use Rattle.lb_tok.specs.declared.lex.ReadFault.{ReadFault}
 use Rattle.lb_tok.specs.Form.{Lang}

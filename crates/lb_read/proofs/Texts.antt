@@ -4,7 +4,7 @@ use Rattle.std.specs.Prelude.{IsUtf8, unwrap_or}
 use Rattle.std.specs.Str.{IsValidUpTo}
 use Rattle.std.proofs.lemmas.List.{take_all}
 use Rattle.std.proofs.lemmas.Str.{utf8_valid_len-IsValidUpTo}
-use Rattle.lb_base.specs.declared.write.Stmt.{Stmt}
+use Rattle.lb_stmt.specs.declared.write.Stmt.{Stmt}
 use Rattle.lb_tok.specs.declared.token.Token.{Token}
 use Rattle.lb_tok.specs.declared.token.Tokens.{Tokens}
 use Rattle.lb_tok.specs.declared.token.Span.{Span}

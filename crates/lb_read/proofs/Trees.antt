@@ -1,6 +1,6 @@
 -- No tokens spell two statements, and so no text does.
 use Rattle.std.proofs.Common.{◌⊎◌, inl, inr, ◌≡◌, ℕ, List, None, subst}
-use Rattle.lb_base.specs.declared.write.Stmt.{Stmt}
+use Rattle.lb_stmt.specs.declared.write.Stmt.{Stmt}
 use Rattle.lb_tok.specs.declared.token.Token.{Token}
 use Rattle.lb_tok.specs.Canonical.{canonical, tokens_of}
 use Rattle.lb_tok.specs.Changes.{IsDefinition, IsStatement}

@@ -1,6 +1,6 @@
 // What holds of texts and their statements.
 ghost use Rattle.std.specs.Prelude.{◌≡◌, ℕ, List, IsUtf8};
-ghost use Rattle.lb_base.specs.declared.write.Stmt.{Stmt};
+ghost use Rattle.lb_stmt.specs.declared.write.Stmt.{Stmt};
 ghost use Rattle.lb_tok.specs.declared.token.Token.{Token};
 ghost use Rattle.lb_tok.specs.Canonical.{canonical};
 ghost use Rattle.lb_tok.specs.Changes.{IsStatement};

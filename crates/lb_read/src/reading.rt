@@ -6,10 +6,10 @@ ghost use Rattle.lb_tok.specs.Syntax.{Reads, FailsSo};
 ghost use Rattle.lb_readt.specs.Readers.{heads};
 ghost use Rattle.lb_readd.specs.Choosing.{definers};
 
-use lb_base::Stmt;
 use lb_readd::definition;
 use lb_readq::query;
 use lb_readt::next_is;
+use lb_stmt::Stmt;
 use lb_tok::{Kind, ReadFault, Token, Tokens, tokens};
 use std::alloc::Global;
 

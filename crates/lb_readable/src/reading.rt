@@ -6,9 +6,9 @@ ghost use Rattle.lb_tok.specs.Syntax.{Reads, IsBeyond};
 ghost use Rattle.lb_readable.specs.Again.{IsReadableOf, IsRefusedSo, IsReadAgain, FailsAgain};
 
 use crate::Readable;
-use lb_base::Stmt;
 use lb_print::canonical;
 use lb_read::{ReadFault, read};
+use lb_stmt::Stmt;
 use std::alloc::Global;
 
 /// The byte from which on no text is read.

@@ -1,7 +1,8 @@
 // A statement that can be read again.
 ghost use Rattle.std.specs.Prelude.{◌≡◌};
 
-use lb_base::{Stmt, Str};
+use lb_base::Str;
+use lb_stmt::Stmt;
 
 /// A statement, and its canonical text.
 #[derive(Drop)]

@@ -1,8 +1,8 @@
 -- Permissions and masks are read in a few steps; here the steps are one production.
 use Rattle.std.proofs.Common.{◌≡◌, ℕ, List, ◌++◌, refl, sym, subst, ◌∙◌, Bool}
-use Rattle.lb_base.specs.declared.query.Tab.{Tab}
-use Rattle.lb_base.specs.declared.query.Cond.{Cond}
-use Rattle.lb_base.specs.declared.query.Expr.{Expr}
+use Rattle.lb_tree.specs.declared.query.Tab.{Tab}
+use Rattle.lb_tree.specs.declared.query.Cond.{Cond}
+use Rattle.lb_tree.specs.declared.query.Expr.{Expr}
 use Rattle.lb_tok.specs.declared.kind.Kind.{Kind}
 use Rattle.lb_tok.specs.declared.kind.Kind.TheVariants as kinds
 use Rattle.lb_tok.specs.declared.token.Token.{Token}

@@ -1,7 +1,7 @@
 -- The parts of a label: behind a comma a further element of the part, or a further part.
 use Rattle.std.proofs.Common.{Bool, true, false, inl, inr, ◌≡◌, ℕ, List, [], ◌∷◌, ◌++◌, refl, sym, ap, subst, ◌∙◌, append_assoc}
 use Rattle.std.proofs.lemmas.List.{append-nil}
-use Rattle.lb_base.specs.declared.change.LabelPart.{LabelPart}
+use Rattle.lb_stmt.specs.declared.change.LabelPart.{LabelPart}
 use Rattle.lb_tok.specs.declared.kind.Kind.TheVariants as kinds
 use Rattle.lb_tok.specs.declared.token.Token.{Token}
 use Rattle.lb_tok.specs.Kinds.{only}

@@ -1,11 +1,11 @@
 -- Permissions, masks, components, policies and labels.
 use Rattle.std.proofs.Common.{Bool, true, false, inl, inr, ◌≡◌, ℕ, List, [], ◌++◌, refl, ◌∙◌}
-use Rattle.lb_base.specs.declared.change.Switch.TheVariants as switches
-use Rattle.lb_base.specs.declared.change.ComponentDef.TheVariants as components
-use Rattle.lb_base.specs.declared.change.WriteOption.TheVariants as options
-use Rattle.lb_base.specs.declared.change.LabelName.{LabelName}
-use Rattle.lb_base.specs.declared.change.Change.{Change}
-use Rattle.lb_base.specs.declared.change.Change.TheVariants as changes
+use Rattle.lb_stmt.specs.declared.change.Switch.TheVariants as switches
+use Rattle.lb_stmt.specs.declared.change.ComponentDef.TheVariants as components
+use Rattle.lb_stmt.specs.declared.change.WriteOption.TheVariants as options
+use Rattle.lb_stmt.specs.declared.change.LabelName.{LabelName}
+use Rattle.lb_stmt.specs.declared.change.Change.{Change}
+use Rattle.lb_stmt.specs.declared.change.Change.TheVariants as changes
 use Rattle.lb_tok.specs.declared.kind.Kind.TheVariants as kinds
 use Rattle.lb_tok.specs.Kinds.{Kinds, only, names}
 use Rattle.lb_tok.specs.Form.{Lang, Nothing, Seq, Either, Made, Listed}

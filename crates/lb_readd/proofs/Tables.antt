@@ -1,13 +1,13 @@
 -- Tables: CREATE TABLE and ALTER TABLE.
 use Rattle.std.proofs.Common.{Bool, true, false, ◌||◌, inl, inr, ◌≡◌, ℕ, zero, suc, List, [], ◌∷◌, ◌++◌, Option, Some, None, refl, sym, ap, ◌∙◌}
 use Rattle.std.proofs.lemmas.List.{append-nil}
-use Rattle.lb_base.specs.declared.change.PlainType.{PlainType}
-use Rattle.lb_base.specs.declared.change.PlainType.TheVariants as plains
-use Rattle.lb_base.specs.declared.change.ColumnType.{ColumnType}
-use Rattle.lb_base.specs.declared.change.ColumnType.TheVariants as types
-use Rattle.lb_base.specs.declared.change.Element.{Element}
-use Rattle.lb_base.specs.declared.change.Element.TheVariants as elements
-use Rattle.lb_base.specs.declared.change.Change.TheVariants as changes
+use Rattle.lb_stmt.specs.declared.change.PlainType.{PlainType}
+use Rattle.lb_stmt.specs.declared.change.PlainType.TheVariants as plains
+use Rattle.lb_stmt.specs.declared.change.ColumnType.{ColumnType}
+use Rattle.lb_stmt.specs.declared.change.ColumnType.TheVariants as types
+use Rattle.lb_stmt.specs.declared.change.Element.{Element}
+use Rattle.lb_stmt.specs.declared.change.Element.TheVariants as elements
+use Rattle.lb_stmt.specs.declared.change.Change.TheVariants as changes
 use Rattle.lb_tok.specs.declared.kind.Kind.TheVariants as kinds
 use Rattle.lb_tok.specs.Kinds.{Kinds, only, names, has}
 use Rattle.lb_tok.specs.Form.{Lang, Nothing, Seq, Either, Many, After, Made, Optional, Listed, Parens}

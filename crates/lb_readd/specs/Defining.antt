@@ -2,30 +2,30 @@
 -- grammar; where a keyword may be a name, the reader takes the name, and the next token decides.
 use Rattle.std.specs.Prelude.{ℕ, zero, suc, List, [], ◌∷◌, ◌++◌, Bool, true, false, ◌||◌, Option, Some, None, ◌⊎◌}
 use Rattle.std.proofs.Common.{inl, inr}
-use Rattle.lb_base.specs.declared.query.Tab.{Tab}
-use Rattle.lb_base.specs.declared.query.Cond.{Cond}
-use Rattle.lb_base.specs.declared.query.Expr.{Expr}
-use Rattle.lb_base.specs.declared.change.PlainType.{PlainType}
-use Rattle.lb_base.specs.declared.change.PlainType.TheVariants as plains
-use Rattle.lb_base.specs.declared.change.ColumnType.{ColumnType}
-use Rattle.lb_base.specs.declared.change.ColumnType.TheVariants as types
-use Rattle.lb_base.specs.declared.change.Element.{Element}
-use Rattle.lb_base.specs.declared.change.Element.TheVariants as elements
-use Rattle.lb_base.specs.declared.change.Switch.{Switch}
-use Rattle.lb_base.specs.declared.change.Switch.TheVariants as switches
-use Rattle.lb_base.specs.declared.change.ControlOf.{ControlOf}
-use Rattle.lb_base.specs.declared.change.ControlOf.TheVariants as controls
-use Rattle.lb_base.specs.declared.change.Activation.{Activation}
-use Rattle.lb_base.specs.declared.change.TreeElement.{TreeElement}
-use Rattle.lb_base.specs.declared.change.ComponentDef.{ComponentDef}
-use Rattle.lb_base.specs.declared.change.ComponentDef.TheVariants as components
-use Rattle.lb_base.specs.declared.change.WriteOption.{WriteOption}
-use Rattle.lb_base.specs.declared.change.WriteOption.TheVariants as options
-use Rattle.lb_base.specs.declared.change.LabelPart.{LabelPart}
-use Rattle.lb_base.specs.declared.change.Change.{Change}
-use Rattle.lb_base.specs.declared.change.Change.TheVariants as changes
-use Rattle.lb_base.specs.declared.write.Stmt.{Stmt}
-use Rattle.lb_base.specs.declared.write.Stmt.TheVariants as stmts
+use Rattle.lb_tree.specs.declared.query.Tab.{Tab}
+use Rattle.lb_tree.specs.declared.query.Cond.{Cond}
+use Rattle.lb_tree.specs.declared.query.Expr.{Expr}
+use Rattle.lb_stmt.specs.declared.change.PlainType.{PlainType}
+use Rattle.lb_stmt.specs.declared.change.PlainType.TheVariants as plains
+use Rattle.lb_stmt.specs.declared.change.ColumnType.{ColumnType}
+use Rattle.lb_stmt.specs.declared.change.ColumnType.TheVariants as types
+use Rattle.lb_stmt.specs.declared.change.Element.{Element}
+use Rattle.lb_stmt.specs.declared.change.Element.TheVariants as elements
+use Rattle.lb_stmt.specs.declared.change.Switch.{Switch}
+use Rattle.lb_stmt.specs.declared.change.Switch.TheVariants as switches
+use Rattle.lb_stmt.specs.declared.change.ControlOf.{ControlOf}
+use Rattle.lb_stmt.specs.declared.change.ControlOf.TheVariants as controls
+use Rattle.lb_stmt.specs.declared.change.Activation.{Activation}
+use Rattle.lb_stmt.specs.declared.change.TreeElement.{TreeElement}
+use Rattle.lb_stmt.specs.declared.change.ComponentDef.{ComponentDef}
+use Rattle.lb_stmt.specs.declared.change.ComponentDef.TheVariants as components
+use Rattle.lb_stmt.specs.declared.change.WriteOption.{WriteOption}
+use Rattle.lb_stmt.specs.declared.change.WriteOption.TheVariants as options
+use Rattle.lb_stmt.specs.declared.change.LabelPart.{LabelPart}
+use Rattle.lb_stmt.specs.declared.change.Change.{Change}
+use Rattle.lb_stmt.specs.declared.change.Change.TheVariants as changes
+use Rattle.lb_stmt.specs.declared.write.Stmt.{Stmt}
+use Rattle.lb_stmt.specs.declared.write.Stmt.TheVariants as stmts
 use Rattle.lb_tok.specs.declared.kind.Kind.{Kind}
 use Rattle.lb_tok.specs.declared.kind.Kind.TheVariants as kinds
 use Rattle.lb_tok.specs.Kinds.{Kinds, only, from_to, names, has}

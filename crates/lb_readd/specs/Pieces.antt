@@ -1,7 +1,7 @@
 -- How the parts of a label are read: piece by piece.
 use Rattle.std.specs.Prelude.{List, ◌++◌}
 use Rattle.std.proofs.Common.{inl, inr}
-use Rattle.lb_base.specs.declared.change.LabelPart.{LabelPart}
+use Rattle.lb_stmt.specs.declared.change.LabelPart.{LabelPart}
 use Rattle.lb_readd.specs.declared.parts.Piece.{Piece}
 use Rattle.lb_readd.specs.declared.parts.Piece.TheVariants as pieces
 use Rattle.lb_readd.specs.declared.parts.Parts.{Parts}

@@ -8,9 +8,10 @@ ghost use Rattle.lb_readd.specs.Defining.{activates_at, control_of_at, activatio
 
 use crate::table::{plain_type, width};
 use crate::types::{next_is_plain_type, other_name, type_word};
-use lb_base::{Activation, Change, ControlOf, Name, PlainType};
+use lb_base::Name;
 use lb_readg::{means, name_or, name_or_either, named};
 use lb_readt::{Read, name, next_is, next_is_either, take};
+use lb_stmt::{Activation, Change, ControlOf, PlainType};
 use lb_tok::{Kind, Token};
 
 // ACTIVATE | DEACTIVATE, and whether it is the first

@@ -1,7 +1,7 @@
 // Whole definitions.
 ghost use Rattle.std.specs.Prelude.{◌≡◌, []};
 ghost use Rattle.lb_readt.specs.Answering.{Gives};
-ghost use Rattle.lb_base.specs.declared.change.Change.TheVariants as changes;
+ghost use Rattle.lb_stmt.specs.declared.change.Change.TheVariants as changes;
 ghost use Rattle.lb_tok.specs.declared.kind.Kind.TheVariants as kinds;
 ghost use Rattle.lb_readt.specs.Readers.{seq, after, made};
 ghost use Rattle.lb_readt.specs.Tokens.{name_at};
@@ -13,10 +13,10 @@ use crate::alter::alter_table;
 use crate::control::{control, replace, switch};
 use crate::label::{create_label, create_policy, drop_label};
 use crate::table::create_table;
-use lb_base::{Change, Stmt};
 use lb_readg::{granted, revoked};
 use lb_readq::{MOST_BRACKETS, at_end};
 use lb_readt::{Fault, Read, name, next_is, take};
+use lb_stmt::{Change, Stmt};
 use lb_tok::{Kind, Token};
 use std::alloc::Global;
 

@@ -4,11 +4,13 @@ ghost use Rattle.lb_readt.specs.Answering.{Gives};
 ghost use Rattle.lb_readq.specs.Queries.{readers};
 ghost use Rattle.lb_readd.specs.Defining.{switch_at, first_switch_at, replace_at, controlled_at, rows_at, masked_at, permission_at, mask_at, control_at};
 
-use lb_base::{Change, Cond, Expr, MaskDef, Name, PermissionDef, Switch, Tab};
+use lb_base::Name;
 use lb_readg::means;
 use lb_readq::{case, cond, tab};
 use lb_readt::{Read, name, next_is, next_is_either, take};
+use lb_stmt::{Change, MaskDef, PermissionDef, Switch};
 use lb_tok::{Kind, Token};
+use lb_tree::{Cond, Expr, Tab};
 use std::alloc::Global;
 
 /// ENABLE | DISABLE

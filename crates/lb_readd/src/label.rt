@@ -8,12 +8,13 @@ ghost use Rattle.lb_readq.specs.Queries.{readers};
 ghost use Rattle.lb_readd.specs.Defining.{texts_at, tree_element_at, tree_at, component_at, create_component_at, new_label_on, create_label_on, create_label_at, which_option_at, write_option_at, create_policy_at, dropped_label_on, drop_label_on, drop_label_at};
 
 use crate::parts::label_parts;
-use lb_base::{Change, ComponentDef, Name, PolicyDef, Str, TreeElement, WriteOption};
+use lb_base::{Name, Str};
 use lb_readg::{label_behind, means, name_or};
 use lb_readq::open;
 use lb_readt::{
     Read, name, names, next_is, next_is_either, next_is_name, take, text, texts, with_first,
 };
+use lb_stmt::{Change, ComponentDef, PolicyDef, TreeElement, WriteOption};
 use lb_tok::{Kind, Token};
 use sqlite_items::Items;
 use std::alloc::Global;

@@ -4,9 +4,9 @@ ghost use Rattle.lb_tok.specs.Changes.{IsDefinition};
 ghost use Rattle.lb_tok.specs.Refusals.{IsRead, FaultSays};
 
 use crate::change::whole;
-use lb_base::Stmt;
 use lb_readq::{offset, unless_cut};
 use lb_readt::Fault;
+use lb_stmt::Stmt;
 use lb_tok::{ReadFault, Tokens};
 use std::alloc::Global;
 

@@ -1,13 +1,14 @@
 // The parts of a label: COMPONENT name text {, text} {, COMPONENT name text {, text}}.
 ghost use Rattle.std.specs.Prelude.{◌≡◌, ◌∷◌, [], ◌++◌, List, IfOk};
-ghost use Rattle.lb_base.specs.declared.change.LabelPart.{LabelPart};
+ghost use Rattle.lb_stmt.specs.declared.change.LabelPart.{LabelPart};
 ghost use Rattle.lb_readt.specs.Readers.{seq};
 ghost use Rattle.lb_readt.specs.Answering.{Gives};
 ghost use Rattle.lb_readd.specs.Defining.{Next, part_at, piece_at, parts_from, parts_on, parts_at};
 ghost use Rattle.lb_readd.specs.Pieces.{piece_of, all_parts};
 
-use lb_base::{LabelPart, Name, Str};
+use lb_base::{Name, Str};
 use lb_readt::{Fault, Read, name, next_is, take, text};
+use lb_stmt::LabelPart;
 use lb_tok::{Kind, Token};
 use sqlite_items::Items;
 use std::alloc::{AllocError, Global};

@@ -7,10 +7,11 @@ ghost use Rattle.lb_readt.specs.Answering.{Gives};
 ghost use Rattle.lb_readq.specs.Queries.{readers};
 ghost use Rattle.lb_readd.specs.Defining.{width_at, plain_type_at, type_at, option_at, options_at, secured_at, column_on, key_at, element_at, in_table_at, table_policy_at, create_table_at};
 
-use lb_base::{Change, ColumnDef, ColumnType, Element, Name, PlainType};
+use lb_base::Name;
 use lb_readg::{means, name_or};
 use lb_readq::open;
 use lb_readt::{Read, int, name, next_is, next_is_either, noise, take, with_first};
+use lb_stmt::{Change, ColumnDef, ColumnType, Element, PlainType};
 use lb_tok::{Kind, Token};
 use sqlite_items::Items;
 use std::alloc::Global;

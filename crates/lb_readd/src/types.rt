@@ -6,8 +6,9 @@ ghost use Rattle.lb_readt.specs.Readers.{heads};
 ghost use Rattle.lb_readt.specs.Answering.{Gives};
 ghost use Rattle.lb_readd.specs.Defining.{plain_types, type_of, type_word_at, other_name_at};
 
-use lb_base::{Name, PlainType};
+use lb_base::Name;
 use lb_readt::{Fault, Read};
+use lb_stmt::PlainType;
 use lb_tok::{Content, Kind, Token};
 
 /// Whether the next token begins a type that is no label's.

@@ -1,10 +1,10 @@
 -- Conditions, and what stands in a bracket at a condition's head.
 use Rattle.std.proofs.Common.{Bool, true, false, inl, inr, ◌≡◌, ℕ, List, [], ◌++◌, refl, sym, subst}
-use Rattle.lb_base.specs.declared.query.Expr.{Expr}
-use Rattle.lb_base.specs.declared.query.Cond.{Cond}
-use Rattle.lb_base.specs.declared.query.Cond.TheVariants as conds
-use Rattle.lb_base.specs.declared.query.Query.{Query}
-use Rattle.lb_base.specs.declared.query.Comparison.{Comparison}
+use Rattle.lb_tree.specs.declared.query.Expr.{Expr}
+use Rattle.lb_tree.specs.declared.query.Cond.{Cond}
+use Rattle.lb_tree.specs.declared.query.Cond.TheVariants as conds
+use Rattle.lb_tree.specs.declared.query.Query.{Query}
+use Rattle.lb_tree.specs.declared.query.Comparison.{Comparison}
 use Rattle.lb_tok.specs.declared.kind.Kind.TheVariants as kinds
 use Rattle.lb_tok.specs.declared.token.Token.{Token}
 use Rattle.lb_tok.specs.Kinds.{Kinds, only}
@@ -15,7 +15,7 @@ use Rattle.lb_reade.specs.Expressions.{Mixed, Side, Readers, rest_at, null_test_
 use Rattle.lb_readt.proofs.Joined.{Within}
 use Rattle.lb_readt.proofs.Combined.{Reads, give_reads, then_reads, same_reads, pick_reads, many_reads, wide, made_reads, after_reads, means_reads, listed_reads}
 use Rattle.lb_reade.proofs.Inner.{in_fact, in_cond, MixedOf, InMixed}
-use Rattle.lb_readt.proofs.Languages.{assoc, unassoc, seq_map, bracket_map, nil, made_is, made_of}
+use Rattle.lb_readt.proofs.Languages.{assoc, unassoc, seq_map, bracket_map, nil, ends, made_is, made_of}
 use Rattle.lb_readt.proofs.Tokens.{comparison_reads}
 use Rattle.lb_reade.proofs.Expressions.{after_expr, after_cond, after_query, Lower, Ready, parens_reads, expr_reads, rest_reads, plain_reads, Plain, Rest, in_rest, to_parts, from_parts}
 

@@ -1,11 +1,11 @@
 -- Expressions.
 use Rattle.std.proofs.Common.{Bool, true, false, inl, inr, ◌≡◌, ℕ, zero, suc, List, [], ◌∷◌, ◌++◌, Option, Some, None, refl, sym, ap, subst, ◌∙◌}
 use Rattle.std.specs.Option.{option_and_then}
-use Rattle.lb_base.specs.declared.query.Expr.{Expr}
-use Rattle.lb_base.specs.declared.query.Expr.TheVariants as exprs
-use Rattle.lb_base.specs.declared.query.Atom.TheVariants as atoms
-use Rattle.lb_base.specs.declared.query.Aggregate.TheVariants as aggregates
-use Rattle.lb_base.specs.declared.query.Column.{Column}
+use Rattle.lb_tree.specs.declared.query.Expr.{Expr}
+use Rattle.lb_tree.specs.declared.query.Expr.TheVariants as exprs
+use Rattle.lb_tree.specs.declared.query.Atom.TheVariants as atoms
+use Rattle.lb_tree.specs.declared.query.Aggregate.TheVariants as aggregates
+use Rattle.lb_tree.specs.declared.query.Column.{Column}
 use Rattle.lb_tok.specs.declared.kind.Kind.TheVariants as kinds
 use Rattle.lb_tok.specs.declared.call.Call.{Call}
 use Rattle.lb_tok.specs.declared.call.Call.TheVariants as calls

@@ -3,17 +3,17 @@
 -- the reader takes what they share first.
 use Rattle.std.specs.Prelude.{ℕ, List, ◌∷◌, ◌++◌, Bool, true, false, Option, Some, None, ◌⊎◌, if◌then◌else◌}
 use Rattle.std.proofs.Common.{inl, inr}
-use Rattle.lb_base.specs.declared.query.Expr.{Expr}
-use Rattle.lb_base.specs.declared.query.Expr.TheVariants as exprs
-use Rattle.lb_base.specs.declared.query.Atom.TheVariants as atoms
-use Rattle.lb_base.specs.declared.query.Cond.{Cond}
-use Rattle.lb_base.specs.declared.query.Cond.TheVariants as conds
-use Rattle.lb_base.specs.declared.query.Query.{Query}
-use Rattle.lb_base.specs.declared.query.Signed.{Signed}
-use Rattle.lb_base.specs.declared.query.Arm.{Arm}
-use Rattle.lb_base.specs.declared.query.Choice.{Choice}
-use Rattle.lb_base.specs.declared.query.Comparison.{Comparison}
-use Rattle.lb_base.specs.declared.query.Aggregate.TheVariants as aggregates
+use Rattle.lb_tree.specs.declared.query.Expr.{Expr}
+use Rattle.lb_tree.specs.declared.query.Expr.TheVariants as exprs
+use Rattle.lb_tree.specs.declared.query.Atom.TheVariants as atoms
+use Rattle.lb_tree.specs.declared.query.Cond.{Cond}
+use Rattle.lb_tree.specs.declared.query.Cond.TheVariants as conds
+use Rattle.lb_tree.specs.declared.query.Query.{Query}
+use Rattle.lb_tree.specs.declared.query.Signed.{Signed}
+use Rattle.lb_tree.specs.declared.query.Arm.{Arm}
+use Rattle.lb_tree.specs.declared.query.Choice.{Choice}
+use Rattle.lb_tree.specs.declared.query.Comparison.{Comparison}
+use Rattle.lb_tree.specs.declared.query.Aggregate.TheVariants as aggregates
 use Rattle.lb_tok.specs.declared.kind.Kind.TheVariants as kinds
 use Rattle.lb_tok.specs.declared.call.Call.{Call}
 use Rattle.lb_tok.specs.declared.call.Call.TheVariants as calls

@@ -4,9 +4,10 @@ ghost use Rattle.lb_tok.specs.Grammar.{alone, of_table, a_column};
 ghost use Rattle.lb_readt.specs.Answering.{Gives};
 ghost use Rattle.lb_reade.specs.Expressions.{verified_texts_at, two_texts_at, shown_at, date_at, number_at, today_at, sign_at};
 
-use lb_base::{Atom, Column, Expr, Name, Str};
+use lb_base::{Name, Str};
 use lb_readt::{Read, column, day, int, negative, next_is, take, text, texts, with_first};
 use lb_tok::{Kind, Token};
+use lb_tree::{Atom, Column, Expr};
 use sqlite_items::Items;
 use std::alloc::{AllocError, Global};
 

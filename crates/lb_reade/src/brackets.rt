@@ -5,9 +5,9 @@ ghost use Rattle.lb_readt.specs.Answering.{Gives};
 ghost use Rattle.lb_reade.specs.Bracketed.{mixed_of, inner_of, within};
 
 use crate::inside::{Inside, Mixed, Wanted};
-use lb_base::{Cond, Expr, Query};
 use lb_readt::{Fault, Read};
 use lb_tok::{Kind, Token};
+use lb_tree::{Cond, Expr, Query};
 use std::alloc::Global;
 
 /// Opens brackets and reads what stands in them, where a certain number of brackets may still open.

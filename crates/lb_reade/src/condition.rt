@@ -10,9 +10,9 @@ ghost use Rattle.lb_reade.specs.Expressions.{parens, null_test_at, set_at, range
 use crate::brackets::Brackets;
 use crate::expression::{expr, exprs, plain, rest_on};
 use crate::inside::{Mixed, Side};
-use lb_base::{Comparison, Cond, Expr};
 use lb_readt::{Read, comparison, next_is, next_is_comparison, take, with_first};
 use lb_tok::{Kind, Token};
+use lb_tree::{Comparison, Cond, Expr};
 use sqlite_items::{Boxed, Items};
 use std::alloc::Global;
 

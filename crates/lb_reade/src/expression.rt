@@ -1,7 +1,7 @@
 // Expressions: each function reads one production, and looks one token ahead.
 ghost use Rattle.std.specs.Prelude.{◌≡◌, ◌<◌, ◌∷◌, IfOk, Some, None, false};
 ghost use Rattle.lb_tok.specs.Kinds.{only};
-ghost use Rattle.lb_base.specs.declared.query.Expr.TheVariants as exprs;
+ghost use Rattle.lb_tree.specs.declared.query.Expr.TheVariants as exprs;
 ghost use Rattle.lb_tok.specs.declared.kind.Kind.TheVariants as kinds;
 ghost use Rattle.lb_readt.specs.Readers.{heads, many, after, commas};
 ghost use Rattle.lb_readt.specs.Answering.{Gives};
@@ -9,9 +9,10 @@ ghost use Rattle.lb_reade.specs.Expressions.{parens, arm_at, choice_at, else_at,
 
 use crate::atom::{column_alone, column_of, date, number, shown, sign, today, two_texts, verified};
 use crate::brackets::Brackets;
-use lb_base::{Aggregate, Arm, Atom, Choice, Expr, Name, Signed};
+use lb_base::Name;
 use lb_readt::{Read, name, next_is, next_is_either, next_is_name, take, text, with_first, word};
 use lb_tok::{Call, Kind, Token};
+use lb_tree::{Aggregate, Arm, Atom, Choice, Expr, Signed};
 use sqlite_items::{Boxed, Items};
 use std::alloc::{AllocError, Global};
 

@@ -1,5 +1,5 @@
 // What brackets may hold.
-use lb_base::{Cond, Expr, Query};
+use lb_tree::{Cond, Expr, Query};
 
 /// What is to be read in a bracket.
 #[derive(Clone, Copy)]

@@ -1,13 +1,13 @@
 -- GRANT and REVOKE.
 use Rattle.std.proofs.Common.{Bool, true, false, ◌⊎◌, inl, inr, ◌≡◌, ℕ, List, [], ◌++◌, refl, sym, ap, subst, ◌∙◌}
-use Rattle.lb_base.specs.declared.change.Access.TheVariants as accesses
-use Rattle.lb_base.specs.declared.change.RuleName.TheVariants as rules
-use Rattle.lb_base.specs.declared.change.TableRight.{TableRight}
-use Rattle.lb_base.specs.declared.change.TableRight.TheVariants as rights
-use Rattle.lb_base.specs.declared.change.Grantee.{Grantee}
-use Rattle.lb_base.specs.declared.change.Grantee.TheVariants as grantees
-use Rattle.lb_base.specs.declared.change.Change.{Change}
-use Rattle.lb_base.specs.declared.change.Change.TheVariants as changes
+use Rattle.lb_stmt.specs.declared.change.Access.TheVariants as accesses
+use Rattle.lb_stmt.specs.declared.change.RuleName.TheVariants as rules
+use Rattle.lb_stmt.specs.declared.change.TableRight.{TableRight}
+use Rattle.lb_stmt.specs.declared.change.TableRight.TheVariants as rights
+use Rattle.lb_stmt.specs.declared.change.Grantee.{Grantee}
+use Rattle.lb_stmt.specs.declared.change.Grantee.TheVariants as grantees
+use Rattle.lb_stmt.specs.declared.change.Change.{Change}
+use Rattle.lb_stmt.specs.declared.change.Change.TheVariants as changes
 use Rattle.lb_tok.specs.declared.kind.Kind.TheVariants as kinds
 use Rattle.lb_tok.specs.declared.token.Token.{Token}
 use Rattle.lb_tok.specs.Kinds.{Kinds, only, names}

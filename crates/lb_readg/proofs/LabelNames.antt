@@ -1,6 +1,6 @@
 -- Names of labels: a policy's name and a label's.
 use Rattle.std.proofs.Common.{Bool, false, ℕ, List, [], refl}
-use Rattle.lb_base.specs.declared.change.LabelName.{LabelName}
+use Rattle.lb_stmt.specs.declared.change.LabelName.{LabelName}
 use Rattle.lb_tok.specs.declared.kind.Kind.TheVariants as kinds
 use Rattle.lb_tok.specs.Kinds.{only, names}
 use Rattle.lb_tok.specs.Form.{Lang, After, Made}

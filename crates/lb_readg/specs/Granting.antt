@@ -2,17 +2,17 @@
 -- grammar; where a keyword may be a name, the reader takes the name, and the next token decides.
 use Rattle.std.specs.Prelude.{ℕ, List, ◌++◌, Bool, Some}
 use Rattle.std.specs.Option.{option_and_then}
-use Rattle.lb_base.specs.declared.change.LabelName.{LabelName}
-use Rattle.lb_base.specs.declared.change.Access.{Access}
-use Rattle.lb_base.specs.declared.change.Access.TheVariants as accesses
-use Rattle.lb_base.specs.declared.change.RuleName.{RuleName}
-use Rattle.lb_base.specs.declared.change.RuleName.TheVariants as rules
-use Rattle.lb_base.specs.declared.change.TableRight.{TableRight}
-use Rattle.lb_base.specs.declared.change.TableRight.TheVariants as rights
-use Rattle.lb_base.specs.declared.change.Grantee.{Grantee}
-use Rattle.lb_base.specs.declared.change.Grantee.TheVariants as grantees
-use Rattle.lb_base.specs.declared.change.Change.{Change}
-use Rattle.lb_base.specs.declared.change.Change.TheVariants as changes
+use Rattle.lb_stmt.specs.declared.change.LabelName.{LabelName}
+use Rattle.lb_stmt.specs.declared.change.Access.{Access}
+use Rattle.lb_stmt.specs.declared.change.Access.TheVariants as accesses
+use Rattle.lb_stmt.specs.declared.change.RuleName.{RuleName}
+use Rattle.lb_stmt.specs.declared.change.RuleName.TheVariants as rules
+use Rattle.lb_stmt.specs.declared.change.TableRight.{TableRight}
+use Rattle.lb_stmt.specs.declared.change.TableRight.TheVariants as rights
+use Rattle.lb_stmt.specs.declared.change.Grantee.{Grantee}
+use Rattle.lb_stmt.specs.declared.change.Grantee.TheVariants as grantees
+use Rattle.lb_stmt.specs.declared.change.Change.{Change}
+use Rattle.lb_stmt.specs.declared.change.Change.TheVariants as changes
 use Rattle.lb_tok.specs.declared.kind.Kind.{Kind}
 use Rattle.lb_tok.specs.declared.kind.Kind.TheVariants as kinds
 use Rattle.lb_tok.specs.Kinds.{Kinds, only, names, has}

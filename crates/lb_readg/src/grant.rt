@@ -7,8 +7,9 @@ ghost use Rattle.lb_readg.specs.Granting.{which_access_at, access_at, down_or_up
 
 use crate::user::{grantee, label_name, spelt_grantee, user};
 use crate::word::{means, name_or, named, next_is_grantee};
-use lb_base::{Access, Change, Grantee, Name, RuleName, TableRight};
+use lb_base::Name;
 use lb_readt::{Read, name, next_is, next_is_either, next_is_name, take, with_first};
+use lb_stmt::{Access, Change, Grantee, RuleName, TableRight};
 use lb_tok::{Kind, Token};
 use sqlite_items::Items;
 use std::alloc::Global;

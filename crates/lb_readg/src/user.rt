@@ -4,8 +4,9 @@ ghost use Rattle.lb_readt.specs.Answering.{Gives};
 ghost use Rattle.lb_readg.specs.Granting.{user_at, spelt_grantee_at, grantee_at, label_on, label_name_at};
 
 use crate::word::means;
-use lb_base::{Grantee, LabelName, Name};
+use lb_base::Name;
 use lb_readt::{Read, name, next_is, noise, take};
+use lb_stmt::{Grantee, LabelName};
 use lb_tok::{Kind, Token};
 
 /// A user: [USER] name

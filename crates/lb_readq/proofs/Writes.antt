@@ -1,7 +1,7 @@
 -- Writes.
 use Rattle.std.proofs.Common.{Bool, true, false, ℕ, [], ◌++◌, refl}
-use Rattle.lb_base.specs.declared.write.InsertSource.TheVariants as sources
-use Rattle.lb_base.specs.declared.write.Stmt.TheVariants as stmts
+use Rattle.lb_stmt.specs.declared.write.InsertSource.TheVariants as sources
+use Rattle.lb_stmt.specs.declared.write.Stmt.TheVariants as stmts
 use Rattle.lb_tok.specs.declared.kind.Kind.TheVariants as kinds
 use Rattle.lb_tok.specs.Kinds.{Kinds, only, names}
 use Rattle.lb_tok.specs.Form.{Listed}

@@ -1,6 +1,6 @@
 -- What reading owes to a language of statements: its answers are right, it misses none, and none is spelled twice.
 use Rattle.std.specs.Prelude.{ℕ, ◌≡◌, List, [], ◌++◌, true, Some}
-use Rattle.lb_base.specs.declared.write.Stmt.{Stmt}
+use Rattle.lb_stmt.specs.declared.write.Stmt.{Stmt}
 use Rattle.lb_tok.specs.declared.token.Token.{Token}
 use Rattle.lb_tok.specs.declared.kind.Kind.TheVariants as kinds
 use Rattle.lb_tok.specs.Kinds.{Kinds, only}

@@ -2,29 +2,29 @@
 -- reads in brackets; X_on reads the rest of it behind a part that is given. Where two alternatives begin alike, the reader
 -- takes what they share first.
 use Rattle.std.specs.Prelude.{ℕ, zero, suc, List, [], ◌∷◌, ◌++◌, true, false, Option, Some, ℤ, pos}
-use Rattle.lb_base.specs.declared.query.Expr.{Expr}
-use Rattle.lb_base.specs.declared.query.Cond.{Cond}
-use Rattle.lb_base.specs.declared.query.Cond.TheViews.{roll-Query, roll-Chain}
-use Rattle.lb_base.specs.declared.query.Query.{Query}
-use Rattle.lb_base.specs.declared.query.Chain.{Chain}
-use Rattle.lb_base.specs.declared.query.Item.{Item}
-use Rattle.lb_base.specs.declared.query.Item.TheVariants as items
-use Rattle.lb_base.specs.declared.query.Join.{Join}
-use Rattle.lb_base.specs.declared.query.Join.TheVariants as joins
-use Rattle.lb_base.specs.declared.query.Tab.{Tab}
-use Rattle.lb_base.specs.declared.query.Column.{Column}
-use Rattle.lb_base.specs.declared.query.Select.{Select}
-use Rattle.lb_base.specs.declared.query.SortKey.{SortKey}
-use Rattle.lb_base.specs.declared.query.Direction.{Direction}
-use Rattle.lb_base.specs.declared.query.Direction.TheVariants as directions
-use Rattle.lb_base.specs.declared.write.InsertSource.{InsertSource}
-use Rattle.lb_base.specs.declared.write.InsertSource.TheVariants as sources
-use Rattle.lb_base.specs.declared.write.Insert.{Insert}
-use Rattle.lb_base.specs.declared.write.Assignment.{Assignment}
-use Rattle.lb_base.specs.declared.write.Update.{Update}
-use Rattle.lb_base.specs.declared.write.Delete.{Delete}
-use Rattle.lb_base.specs.declared.write.Stmt.{Stmt}
-use Rattle.lb_base.specs.declared.write.Stmt.TheVariants as stmts
+use Rattle.lb_tree.specs.declared.query.Expr.{Expr}
+use Rattle.lb_tree.specs.declared.query.Cond.{Cond}
+use Rattle.lb_tree.specs.declared.query.Cond.TheViews.{roll-Query, roll-Chain}
+use Rattle.lb_tree.specs.declared.query.Query.{Query}
+use Rattle.lb_tree.specs.declared.query.Chain.{Chain}
+use Rattle.lb_tree.specs.declared.query.Item.{Item}
+use Rattle.lb_tree.specs.declared.query.Item.TheVariants as items
+use Rattle.lb_tree.specs.declared.query.Join.{Join}
+use Rattle.lb_tree.specs.declared.query.Join.TheVariants as joins
+use Rattle.lb_tree.specs.declared.query.Tab.{Tab}
+use Rattle.lb_tree.specs.declared.query.Column.{Column}
+use Rattle.lb_tree.specs.declared.query.Select.{Select}
+use Rattle.lb_tree.specs.declared.query.SortKey.{SortKey}
+use Rattle.lb_tree.specs.declared.query.Direction.{Direction}
+use Rattle.lb_tree.specs.declared.query.Direction.TheVariants as directions
+use Rattle.lb_stmt.specs.declared.write.InsertSource.{InsertSource}
+use Rattle.lb_stmt.specs.declared.write.InsertSource.TheVariants as sources
+use Rattle.lb_stmt.specs.declared.write.Insert.{Insert}
+use Rattle.lb_stmt.specs.declared.write.Assignment.{Assignment}
+use Rattle.lb_stmt.specs.declared.write.Update.{Update}
+use Rattle.lb_stmt.specs.declared.write.Delete.{Delete}
+use Rattle.lb_stmt.specs.declared.write.Stmt.{Stmt}
+use Rattle.lb_stmt.specs.declared.write.Stmt.TheVariants as stmts
 use Rattle.lb_tok.specs.declared.kind.Kind.TheVariants as kinds
 use Rattle.lb_tok.specs.declared.call.Call.{Call}
 use Rattle.lb_tok.specs.Kinds.{Kinds, only, names}

@@ -6,10 +6,10 @@ ghost use Rattle.lb_readq.specs.Queries.{where_at, having_at, group_at, query_at
 
 use crate::item::items;
 use crate::table::{chain, chains};
-use lb_base::{Column, Cond, Query};
 use lb_reade::{Brackets, cond};
 use lb_readt::{Read, column, columns, flag, next_is, take, with_first};
 use lb_tok::{Kind, Token};
+use lb_tree::{Column, Cond, Query};
 use sqlite_items::{Boxed, Items};
 use std::alloc::Global;
 

@@ -6,10 +6,11 @@ ghost use Rattle.lb_readq.specs.Queries.{value_on, starred_on, item_at, items_at
 ghost use Rattle.lb_reade.specs.Expressions.{unnamed_at};
 
 use crate::table::alias;
-use lb_base::{Expr, Item, Name};
+use lb_base::Name;
 use lb_reade::{Brackets, called, column_of, in_parens, literal, rest_on};
 use lb_readt::{Read, name, next_is, next_is_name, take, with_first, word};
 use lb_tok::{Call, Kind, Token};
+use lb_tree::{Expr, Item};
 use sqlite_items::Items;
 use std::alloc::Global;
 

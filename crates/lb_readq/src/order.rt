@@ -5,10 +5,10 @@ ghost use Rattle.lb_readt.specs.Answering.{Gives};
 ghost use Rattle.lb_readq.specs.Queries.{direction_at, sort_key_at, order_at, row_count_at, fetch_at, may_fetch_at, select_at};
 
 use crate::clause::query;
-use lb_base::{Direction, Select, SortKey};
 use lb_reade::{Brackets, expr};
 use lb_readt::{Read, count, next_is, take, with_first};
 use lb_tok::{Kind, Token};
+use lb_tree::{Direction, Select, SortKey};
 use sqlite_items::Items;
 use std::alloc::Global;
 

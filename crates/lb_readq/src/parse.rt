@@ -9,8 +9,8 @@ ghost use Rattle.lb_tok.specs.Refusals.{IsRead, FaultSays, StandsAt};
 
 use crate::level::Depth;
 use crate::write::statement;
-use lb_base::Stmt;
 use lb_readt::Fault;
+use lb_stmt::Stmt;
 use lb_tok::{ReadFault, Token, Tokens};
 use std::alloc::Global;
 

@@ -5,9 +5,9 @@ ghost use Rattle.lb_readq.specs.Queries.{readers, select_at};
 
 use crate::level::Depth;
 use crate::order;
-use lb_base::{Cond, Expr, Select};
 use lb_readt::Read;
 use lb_tok::Token;
+use lb_tree::{Cond, Expr, Select};
 use std::alloc::Global;
 
 /// Reads a condition where `depth` brackets may still open.

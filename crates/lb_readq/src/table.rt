@@ -4,10 +4,11 @@ ghost use Rattle.lb_readt.specs.Readers.{heads, many, after, commas};
 ghost use Rattle.lb_readt.specs.Answering.{Gives};
 ghost use Rattle.lb_readq.specs.Queries.{alias_at, tab_at, joined_at, join_at, in_join, chain_at};
 
-use lb_base::{Chain, Cond, Join, Name, Tab};
+use lb_base::Name;
 use lb_reade::{Brackets, cond};
 use lb_readt::{Read, name, next_is, next_is_name, noise, take};
 use lb_tok::{Kind, Token};
+use lb_tree::{Chain, Cond, Join, Tab};
 use sqlite_items::Items;
 use std::alloc::Global;
 

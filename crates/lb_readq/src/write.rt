@@ -6,10 +6,12 @@ ghost use Rattle.lb_readq.specs.Queries.{in_row_at, row_at, source_at, targets_a
 
 use crate::order::select;
 use crate::table::tab;
-use lb_base::{Assignment, Cond, Delete, Expr, Insert, InsertSource, Name, Stmt, Update};
+use lb_base::Name;
 use lb_reade::{Brackets, cond, expr, exprs};
 use lb_readt::{Read, name, names, next_is, take, with_first};
+use lb_stmt::{Assignment, Delete, Insert, InsertSource, Stmt, Update};
 use lb_tok::{Kind, Token};
+use lb_tree::{Cond, Expr};
 use sqlite_items::Items;
 use std::alloc::Global;
 

@@ -1,6 +1,6 @@
 -- Single tokens, and columns.
 use Rattle.std.proofs.Common.{Bool, false, ℕ, List, [], refl, codes}
-use Rattle.lb_base.specs.declared.query.Column.{Column}
+use Rattle.lb_tree.specs.declared.query.Column.{Column}
 use Rattle.lb_base.specs.Days.{day_of}
 use Rattle.lb_tok.specs.declared.kind.Kind.TheVariants as kinds
 use Rattle.lb_tok.specs.declared.token.Token.{Token}

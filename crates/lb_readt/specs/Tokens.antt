@@ -1,7 +1,7 @@
 -- Readers of single tokens, and of columns.
 use Rattle.std.specs.Prelude.{ℕ, List, Option, ℤ}
-use Rattle.lb_base.specs.declared.query.Column.{Column}
-use Rattle.lb_base.specs.declared.query.Comparison.{Comparison}
+use Rattle.lb_tree.specs.declared.query.Column.{Column}
+use Rattle.lb_tree.specs.declared.query.Comparison.{Comparison}
 use Rattle.lb_tok.specs.declared.kind.Kind.TheVariants as kinds
 use Rattle.lb_tok.specs.declared.call.Call.{Call}
 use Rattle.lb_tok.specs.Kinds.{only, from_to, names}

@@ -7,8 +7,9 @@ ghost use Rattle.lb_readt.specs.Answering.{Gives};
 ghost use Rattle.lb_readt.specs.Tokens.{name_at, text_at, int_at, negative_at, count_at, day_at, word_at, comparison_at};
 
 use crate::fault::{Fault, Read};
-use lb_base::{Comparison, Name, Str, date_of};
+use lb_base::{Name, Str, date_of};
 use lb_tok::{Call, Content, Kind, Token};
+use lb_tree::Comparison;
 
 // The least magnitude that a 64-bit integer holds only behind a minus.
 const LIMIT: u64 = 9223372036854775808;

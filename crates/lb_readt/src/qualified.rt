@@ -6,8 +6,8 @@ ghost use Rattle.lb_readt.specs.Tokens.{column_at};
 
 use crate::fault::Read;
 use crate::next::{name, next_is, take};
-use lb_base::Column;
 use lb_tok::{Kind, Token};
+use lb_tree::Column;
 use sqlite_items::Items;
 use std::alloc::Global;
 

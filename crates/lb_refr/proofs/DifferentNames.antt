@@ -2,7 +2,7 @@
 use Rattle.std.proofs.Common.{◌≡◌, ℕ, Bool, true, false, not, ◌&&◌, ◌||◌, List, [], ◌∷◌, map, refl, sym, ap, subst, ◌∙◌}
 use Rattle.std.specs.List.{list_any}
 use Rattle.std.specs.Str.{bytes_eq}
-use Rattle.lb_base.specs.declared.change.Element.{Element}
+use Rattle.lb_stmt.specs.declared.change.Element.{Element}
 use Rattle.lb_model.specs.Small.{are_different}
 use Rattle.lb_refr.specs.Shapes.{element_name}
 

@@ -3,45 +3,45 @@ use Rattle.std.proofs.Common.{◌≡◌, ℕ, ℤ, pos, negsuc, suc, ◌≤◌, 
 use Rattle.std.specs.List.{list_all, AllByRecursion}
 use Rattle.std.proofs.lemmas.Bool.{and_parts, and_from, not-true, leb-true, le-leb, eqb-true}
 use Rattle.std.proofs.lemmas.List.{length-map}
-use Rattle.lb_base.specs.declared.query.Comparison.TheVariants as comparisons
-use Rattle.lb_base.specs.declared.query.Comparison.{Comparison}
-use Rattle.lb_base.specs.declared.query.Atom.{Atom}
-use Rattle.lb_base.specs.declared.query.Atom.TheVariants as atoms
-use Rattle.lb_base.specs.declared.query.Column.{Column}
-use Rattle.lb_base.specs.declared.query.Expr.{Expr}
-use Rattle.lb_base.specs.declared.query.Expr.TheVariants as exprs
-use Rattle.lb_base.specs.declared.query.Cond.{Cond}
-use Rattle.lb_base.specs.declared.query.Cond.TheVariants as conds
-use Rattle.lb_base.specs.declared.query.Item.{Item}
-use Rattle.lb_base.specs.declared.query.Item.TheVariants as items
-use Rattle.lb_base.specs.declared.query.Join.{Join}
-use Rattle.lb_base.specs.declared.query.Arm.{Arm}
-use Rattle.lb_base.specs.declared.query.Chain.{Chain}
-use Rattle.lb_base.specs.declared.query.Choice.{Choice}
-use Rattle.lb_base.specs.declared.query.Query.{Query}
-use Rattle.lb_base.specs.declared.query.Signed.{Signed}
-use Rattle.lb_base.specs.declared.query.SortKey.{SortKey}
-use Rattle.lb_base.specs.declared.query.Select.{Select}
-use Rattle.lb_base.specs.declared.query.Cond.TheOpen as layers
-use Rattle.lb_base.specs.declared.query.Cond.TheViews.{out-Expr, roll-Expr, roll-out-Expr, out-roll-Expr, out-Cond, roll-Cond, roll-out-Cond, out-roll-Cond, out-Item, roll-Item, roll-out-Item, out-roll-Item, out-Chain, roll-Chain, roll-out-Chain, out-Query, roll-Query, roll-out-Query, out-roll-Query}
-use Rattle.lb_base.specs.declared.write.InsertSource.{InsertSource}
-use Rattle.lb_base.specs.declared.write.InsertSource.TheVariants as sources
-use Rattle.lb_base.specs.declared.write.Insert.{Insert}
-use Rattle.lb_base.specs.declared.write.Stmt.{Stmt}
-use Rattle.lb_base.specs.declared.write.Stmt.TheVariants as stmts
-use Rattle.lb_base.specs.declared.change.PlainType.TheVariants as plains
-use Rattle.lb_base.specs.declared.change.ColumnType.{ColumnType}
-use Rattle.lb_base.specs.declared.change.ColumnType.TheVariants as types
-use Rattle.lb_base.specs.declared.change.Element.{Element}
-use Rattle.lb_base.specs.declared.change.Element.TheVariants as elements
-use Rattle.lb_base.specs.declared.change.Switch.{Switch}
-use Rattle.lb_base.specs.declared.change.Switch.TheVariants as switches
-use Rattle.lb_base.specs.declared.change.ControlOf.{ControlOf}
-use Rattle.lb_base.specs.declared.change.ControlOf.TheVariants as controls
-use Rattle.lb_base.specs.declared.change.Activation.{Activation}
-use Rattle.lb_base.specs.declared.change.PermissionDef.{PermissionDef}
-use Rattle.lb_base.specs.declared.change.Change.{Change}
-use Rattle.lb_base.specs.declared.change.Change.TheVariants as changes
+use Rattle.lb_tree.specs.declared.query.Comparison.TheVariants as comparisons
+use Rattle.lb_tree.specs.declared.query.Comparison.{Comparison}
+use Rattle.lb_tree.specs.declared.query.Atom.{Atom}
+use Rattle.lb_tree.specs.declared.query.Atom.TheVariants as atoms
+use Rattle.lb_tree.specs.declared.query.Column.{Column}
+use Rattle.lb_tree.specs.declared.query.Expr.{Expr}
+use Rattle.lb_tree.specs.declared.query.Expr.TheVariants as exprs
+use Rattle.lb_tree.specs.declared.query.Cond.{Cond}
+use Rattle.lb_tree.specs.declared.query.Cond.TheVariants as conds
+use Rattle.lb_tree.specs.declared.query.Item.{Item}
+use Rattle.lb_tree.specs.declared.query.Item.TheVariants as items
+use Rattle.lb_tree.specs.declared.query.Join.{Join}
+use Rattle.lb_tree.specs.declared.query.Arm.{Arm}
+use Rattle.lb_tree.specs.declared.query.Chain.{Chain}
+use Rattle.lb_tree.specs.declared.query.Choice.{Choice}
+use Rattle.lb_tree.specs.declared.query.Query.{Query}
+use Rattle.lb_tree.specs.declared.query.Signed.{Signed}
+use Rattle.lb_tree.specs.declared.query.SortKey.{SortKey}
+use Rattle.lb_tree.specs.declared.query.Select.{Select}
+use Rattle.lb_tree.specs.declared.query.Cond.TheOpen as layers
+use Rattle.lb_tree.specs.declared.query.Cond.TheViews.{out-Expr, roll-Expr, roll-out-Expr, out-roll-Expr, out-Cond, roll-Cond, roll-out-Cond, out-roll-Cond, out-Item, roll-Item, roll-out-Item, out-roll-Item, out-Chain, roll-Chain, roll-out-Chain, out-Query, roll-Query, roll-out-Query, out-roll-Query}
+use Rattle.lb_stmt.specs.declared.write.InsertSource.{InsertSource}
+use Rattle.lb_stmt.specs.declared.write.InsertSource.TheVariants as sources
+use Rattle.lb_stmt.specs.declared.write.Insert.{Insert}
+use Rattle.lb_stmt.specs.declared.write.Stmt.{Stmt}
+use Rattle.lb_stmt.specs.declared.write.Stmt.TheVariants as stmts
+use Rattle.lb_stmt.specs.declared.change.PlainType.TheVariants as plains
+use Rattle.lb_stmt.specs.declared.change.ColumnType.{ColumnType}
+use Rattle.lb_stmt.specs.declared.change.ColumnType.TheVariants as types
+use Rattle.lb_stmt.specs.declared.change.Element.{Element}
+use Rattle.lb_stmt.specs.declared.change.Element.TheVariants as elements
+use Rattle.lb_stmt.specs.declared.change.Switch.{Switch}
+use Rattle.lb_stmt.specs.declared.change.Switch.TheVariants as switches
+use Rattle.lb_stmt.specs.declared.change.ControlOf.{ControlOf}
+use Rattle.lb_stmt.specs.declared.change.ControlOf.TheVariants as controls
+use Rattle.lb_stmt.specs.declared.change.Activation.{Activation}
+use Rattle.lb_stmt.specs.declared.change.PermissionDef.{PermissionDef}
+use Rattle.lb_stmt.specs.declared.change.Change.{Change}
+use Rattle.lb_stmt.specs.declared.change.Change.TheVariants as changes
 use Rattle.lb_model.specs.Change.{is_enabled}
 use Rattle.lb_model.specs.Evaluation.{ExprLayer, CondLayer}
 use Rattle.lb_model.specs.Small.{are_different, TextColumn, Form, table, insert, select, permission, activate, IsColumn, IsForm, plain_tab, element_of, literal_of, whole_table, is_user, statement_of, IsSmall}

@@ -8,8 +8,9 @@ ghost use Rattle.lb_refr.specs.Leaves.{Leaves};
 use crate::condition::{missing_column, new_permission};
 use crate::find::{is_permission, place_of_table, place_of_version, table_of};
 use crate::refused::{exists, unknown};
-use lb_base::{Change, ColumnType, Element, Listing, Name, NoMemory, PermissionDef, PlainType, Ty};
+use lb_base::{Listing, Name, NoMemory, Ty};
 use lb_model::{ColumnRec, Reply, TableRec, TableVersion};
+use lb_stmt::{Change, ColumnType, Element, PermissionDef, PlainType};
 use std::alloc::Global;
 
 /// Runs a change of the user. After `Err` records and rows are as they were.

@@ -1,12 +1,14 @@
 // CREATE PERMISSION statement: the columns of its condition, and the condition as it is stored.
 ghost use Rattle.std.specs.Prelude.{◌≡◌, IfOk};
 ghost use Rattle.std.specs.Option.{option_copied};
-ghost use Rattle.lb_base.specs.declared.query.Cond.TheViews.{out-Expr};
+ghost use Rattle.lb_tree.specs.declared.query.Cond.TheViews.{out-Expr};
 ghost use Rattle.lb_model.specs.Change.{columns_in, columns_of, first_missing, qualified_expr, qualified, is_enabled, name_or, new_permission as permission_meant};
 
 use crate::find::is_column;
-use lb_base::{Atom, Column, Cond, Expr, Name, NoMemory, PermissionDef, Switch, Tab};
+use lb_base::{Name, NoMemory};
 use lb_model::{ColumnRec, PermissionRec};
+use lb_stmt::{PermissionDef, Switch};
+use lb_tree::{Atom, Column, Cond, Expr, Tab};
 use sqlite_items::Boxed;
 use std::alloc::Global;
 

@@ -7,8 +7,10 @@ ghost use Rattle.lb_model.specs.NotYet.{rows_given};
 use crate::find::{place_of_version, table_of};
 use crate::permission::{are_rows_insertable, enabled_names};
 use crate::refused::unknown;
-use lb_base::{Atom, Expr, InsertSource, Listing, Name, NoMemory, Row, RowList, Stmt, Str, Value};
+use lb_base::{Listing, Name, NoMemory, Row, RowList, Str, Value};
 use lb_model::{Refusal, Reply, TableRec, TableVersion, Verb};
+use lb_stmt::{InsertSource, Stmt};
+use lb_tree::{Atom, Expr};
 use sqlite_items::Items;
 use std::alloc::Global;
 

@@ -7,10 +7,9 @@ ghost use Rattle.lb_model.specs.Visible.{enabled, grants, is_allowed};
 ghost use Rattle.lb_model.specs.Answer.{are_insertable};
 ghost use Rattle.lb_refr.specs.Texts.{text_of, same_text};
 
-use lb_base::{
-    Atom, Column, Comparison, Cond, Expr, Listing, Name, Names, NoMemory, Row, Truth, Value,
-};
+use lb_base::{Listing, Name, Names, NoMemory, Row, Truth, Value};
 use lb_model::{ColumnRec, PermissionRec, TableRec};
+use lb_tree::{Atom, Column, Comparison, Cond, Expr};
 use std::alloc::Global;
 
 /// Whether the user may see or write the row: some enabled permission of the table is true for it

@@ -1,7 +1,7 @@
 // SELECT: the rows of a table that the user sees.
 ghost use Rattle.std.specs.Prelude.{◌≡◌, IfOk};
 ghost use Rattle.std.specs.List.{filter};
-ghost use Rattle.lb_base.specs.declared.query.Cond.TheViews.{out-Query};
+ghost use Rattle.lb_tree.specs.declared.query.Cond.TheViews.{out-Query};
 ghost use Rattle.lb_model.specs.Catalog.{table_named, rows_of};
 ghost use Rattle.lb_model.specs.Visible.{is_allowed, visible};
 ghost use Rattle.lb_model.specs.Answer.{first_table, replied, select_from};
@@ -9,8 +9,9 @@ ghost use Rattle.lb_model.specs.Answer.{first_table, replied, select_from};
 use crate::find::{place_of_version, table_of};
 use crate::permission::is_row_allowed;
 use crate::refused::unknown;
-use lb_base::{Chain, Listing, Name, NoMemory, Query, Row, RowList};
+use lb_base::{Listing, Name, NoMemory, Row, RowList};
 use lb_model::{Reply, TableRec, TableVersion};
+use lb_tree::{Chain, Query};
 use std::alloc::Global;
 
 /// Answers a query of the user.

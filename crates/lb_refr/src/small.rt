@@ -2,15 +2,17 @@
 ghost use Rattle.std.specs.Prelude.{◌≡◌, ◌↔◌, IsTrue, map, codes};
 ghost use Rattle.std.specs.List.{list_all, list_any};
 ghost use Rattle.std.specs.Str.{bytes_eq};
-ghost use Rattle.lb_base.specs.declared.query.Cond.TheViews.{out-Expr};
+ghost use Rattle.lb_tree.specs.declared.query.Cond.TheViews.{out-Expr};
 ghost use Rattle.lb_model.specs.Small.{IsSmall, are_different};
 ghost use Rattle.lb_refr.specs.Shapes as shapes;
 
 use crate::condition::is_on;
-use lb_base::{
-    Activation, Atom, Chain, Change, ColumnType, Comparison, Cond, ControlOf, Element, Expr,
-    Insert, InsertSource, Item, Name, PermissionDef, PlainType, Query, Select, Stmt, Tab,
+use lb_base::Name;
+use lb_stmt::{
+    Activation, Change, ColumnType, ControlOf, Element, Insert, InsertSource, PermissionDef,
+    PlainType, Stmt,
 };
+use lb_tree::{Atom, Chain, Comparison, Cond, Expr, Item, Query, Select, Tab};
 use sqlite_items::Items;
 
 /// The most columns of a table.

@@ -7,8 +7,9 @@ use crate::insert::insert;
 use crate::limits::{are_rows_too_many, is_table_too_many};
 use crate::query::select;
 use crate::small::{is_secadmin, is_small};
-use lb_base::{Change, Listing, Name, NoMemory, RowList, Stmt};
+use lb_base::{Listing, Name, NoMemory, RowList};
 use lb_model::{Reply, TableRec, TableVersion};
+use lb_stmt::{Change, Stmt};
 use std::alloc::Global;
 use std::marker::Model;
 
@@ -21,7 +22,7 @@ pub struct Store {
 
 impl Model for Store {
     ghost use Rattle.std.specs.Coded.{codes};
-    ghost use Rattle.lb_base.specs.contracts.query.Cond as conds;
+    ghost use Rattle.lb_tree.specs.contracts.query.Cond as conds;
     ghost use Rattle.lb_refr.specs.Stored.{Stored};
 
     ghost Value = { Stored };

@@ -1,9 +1,9 @@
 -- What is wanted of canonical pieces of expressions, conditions and queries.
 use Rattle.std.proofs.Common.{true, false, ◌≡◌, ℕ, List}
 use Rattle.std.specs.Prelude.{nat_le}
-use Rattle.lb_base.specs.declared.query.Expr.{Expr}
-use Rattle.lb_base.specs.declared.query.Cond.{Cond}
-use Rattle.lb_base.specs.declared.query.Query.{Query}
+use Rattle.lb_tree.specs.declared.query.Expr.{Expr}
+use Rattle.lb_tree.specs.declared.query.Cond.{Cond}
+use Rattle.lb_tree.specs.declared.query.Query.{Query}
 use Rattle.lb_tok.specs.declared.token.Token.{Token}
 use Rattle.lb_tok.specs.Form.{Below}
 use Rattle.lb_tok.specs.QueryPieces.{expr_phrase, expr_pieces, cond_phrase, cond_pieces, query_pieces}

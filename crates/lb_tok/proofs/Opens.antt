@@ -1,28 +1,28 @@
 -- What each node of a query's tree gives, by what its parts give.
 use Rattle.std.proofs.Common.{◌≡◌, refl, ap, sym, ◌∙◌, ℕ, List, [], ◌∷◌, ◌++◌, Bool, Option, Some, None, map}
 use Rattle.std.specs.List.{flat_map}
-use Rattle.lb_base.specs.declared.query.Comparison.{Comparison}
-use Rattle.lb_base.specs.declared.query.Aggregate.{Aggregate}
-use Rattle.lb_base.specs.declared.query.Function.{Function}
-use Rattle.lb_base.specs.declared.query.Atom.{Atom}
-use Rattle.lb_base.specs.declared.query.Column.{Column}
-use Rattle.lb_base.specs.declared.query.Tab.{Tab}
-use Rattle.lb_base.specs.declared.query.Expr.{Expr}
-use Rattle.lb_base.specs.declared.query.Expr.TheVariants as exprs
-use Rattle.lb_base.specs.declared.query.Cond.{Cond}
-use Rattle.lb_base.specs.declared.query.Cond.TheVariants as conds
-use Rattle.lb_base.specs.declared.query.Item.{Item}
-use Rattle.lb_base.specs.declared.query.Item.TheVariants as items
-use Rattle.lb_base.specs.declared.query.Join.{Join}
-use Rattle.lb_base.specs.declared.query.Join.TheVariants as joins
-use Rattle.lb_base.specs.declared.query.Arm.{Arm}
-use Rattle.lb_base.specs.declared.query.Chain.{Chain}
-use Rattle.lb_base.specs.declared.query.Choice.{Choice}
-use Rattle.lb_base.specs.declared.query.Query.{Query}
-use Rattle.lb_base.specs.declared.query.Signed.{Signed}
-use Rattle.lb_base.specs.declared.query.Cond.TheOpen as layers
-use Rattle.lb_base.specs.declared.query.Cond.TheViews.{out-Query, roll-Cond, roll-Expr, roll-Item, roll-Join, roll-Chain, roll-Query}
-use Rattle.lb_base.specs.declared.query.Cond.TheFolds.{map-Cond, fold-roll-Cond, map-Expr, fold-roll-Expr, map-Item, fold-roll-Item, map-Join, fold-roll-Join, fold_out-Arm, fold-roll-Chain, fold_out-Chain, fold_out-Choice, map-Query, fold-roll-Query, fold_out-Query, fold_out-Signed}
+use Rattle.lb_tree.specs.declared.query.Comparison.{Comparison}
+use Rattle.lb_tree.specs.declared.query.Aggregate.{Aggregate}
+use Rattle.lb_tree.specs.declared.query.Function.{Function}
+use Rattle.lb_tree.specs.declared.query.Atom.{Atom}
+use Rattle.lb_tree.specs.declared.query.Column.{Column}
+use Rattle.lb_tree.specs.declared.query.Tab.{Tab}
+use Rattle.lb_tree.specs.declared.query.Expr.{Expr}
+use Rattle.lb_tree.specs.declared.query.Expr.TheVariants as exprs
+use Rattle.lb_tree.specs.declared.query.Cond.{Cond}
+use Rattle.lb_tree.specs.declared.query.Cond.TheVariants as conds
+use Rattle.lb_tree.specs.declared.query.Item.{Item}
+use Rattle.lb_tree.specs.declared.query.Item.TheVariants as items
+use Rattle.lb_tree.specs.declared.query.Join.{Join}
+use Rattle.lb_tree.specs.declared.query.Join.TheVariants as joins
+use Rattle.lb_tree.specs.declared.query.Arm.{Arm}
+use Rattle.lb_tree.specs.declared.query.Chain.{Chain}
+use Rattle.lb_tree.specs.declared.query.Choice.{Choice}
+use Rattle.lb_tree.specs.declared.query.Query.{Query}
+use Rattle.lb_tree.specs.declared.query.Signed.{Signed}
+use Rattle.lb_tree.specs.declared.query.Cond.TheOpen as layers
+use Rattle.lb_tree.specs.declared.query.Cond.TheViews.{out-Query, roll-Cond, roll-Expr, roll-Item, roll-Join, roll-Chain, roll-Query}
+use Rattle.lb_tree.specs.declared.query.Cond.TheFolds.{map-Cond, fold-roll-Cond, map-Expr, fold-roll-Expr, map-Item, fold-roll-Item, map-Join, fold-roll-Join, fold_out-Arm, fold-roll-Chain, fold_out-Chain, fold_out-Choice, map-Query, fold-roll-Query, fold_out-Query, fold_out-Signed}
 use Rattle.lb_tok.specs.declared.kind.Kind.TheVariants as kinds
 use Rattle.lb_tok.specs.Spacing.{Piece, mark, all_of}
 use Rattle.lb_tok.specs.QueryPieces.{separated, listed, parens, call, clause, flag, option_of, alias_pieces, tab_pieces, atom_pieces, Phrase, at_least, pieces_of, sum_pieces, case_pieces, aggregate_pieces, function_kind, comparison_kind, group_pieces, cond_layer, expr_layer, item_layer, join_layer, arm_layer, chain_layer, choice_layer, query_layer, signed_layer, cond_phrase, expr_phrase, item_pieces, join_pieces, arm_pieces, chain_pieces, choice_pieces, query_pieces, signed_part, expr_pieces, cond_pieces}

@@ -1,36 +1,36 @@
 -- Statements that change the catalogue, spelled by canonical pieces.
 use Rattle.std.proofs.Common.{Bool, true, false, cond, ◌≡◌, ℕ, List, [], ◌∷◌, ◌++◌, map, Option, Some, None, refl, sym, ap, subst, append_assoc}
 use Rattle.std.specs.Option.{option_and_then}
-use Rattle.lb_base.specs.declared.query.Tab.{Tab}
-use Rattle.lb_base.specs.declared.query.Cond.{Cond}
-use Rattle.lb_base.specs.declared.query.Expr.{Expr}
-use Rattle.lb_base.specs.declared.change.PlainType.{PlainType}
-use Rattle.lb_base.specs.declared.change.PlainType.TheVariants as plains
-use Rattle.lb_base.specs.declared.change.ColumnType.{ColumnType}
-use Rattle.lb_base.specs.declared.change.ColumnType.TheVariants as types
-use Rattle.lb_base.specs.declared.change.Element.{Element}
-use Rattle.lb_base.specs.declared.change.Element.TheVariants as elements
-use Rattle.lb_base.specs.declared.change.Switch.{Switch}
-use Rattle.lb_base.specs.declared.change.Switch.TheVariants as switches
-use Rattle.lb_base.specs.declared.change.ControlOf.{ControlOf}
-use Rattle.lb_base.specs.declared.change.ControlOf.TheVariants as controls
-use Rattle.lb_base.specs.declared.change.Activation.{Activation}
-use Rattle.lb_base.specs.declared.change.TreeElement.{TreeElement}
-use Rattle.lb_base.specs.declared.change.ComponentDef.{ComponentDef}
-use Rattle.lb_base.specs.declared.change.WriteOption.{WriteOption}
-use Rattle.lb_base.specs.declared.change.WriteOption.TheVariants as options
-use Rattle.lb_base.specs.declared.change.LabelName.{LabelName}
-use Rattle.lb_base.specs.declared.change.LabelPart.{LabelPart}
-use Rattle.lb_base.specs.declared.change.Access.{Access}
-use Rattle.lb_base.specs.declared.change.Access.TheVariants as accesses
-use Rattle.lb_base.specs.declared.change.RuleName.{RuleName}
-use Rattle.lb_base.specs.declared.change.RuleName.TheVariants as rules
-use Rattle.lb_base.specs.declared.change.TableRight.{TableRight}
-use Rattle.lb_base.specs.declared.change.TableRight.TheVariants as rights
-use Rattle.lb_base.specs.declared.change.Grantee.{Grantee}
-use Rattle.lb_base.specs.declared.change.Grantee.TheVariants as grantees
-use Rattle.lb_base.specs.declared.change.Change.{Change}
-use Rattle.lb_base.specs.declared.change.Change.TheVariants as changes
+use Rattle.lb_tree.specs.declared.query.Tab.{Tab}
+use Rattle.lb_tree.specs.declared.query.Cond.{Cond}
+use Rattle.lb_tree.specs.declared.query.Expr.{Expr}
+use Rattle.lb_stmt.specs.declared.change.PlainType.{PlainType}
+use Rattle.lb_stmt.specs.declared.change.PlainType.TheVariants as plains
+use Rattle.lb_stmt.specs.declared.change.ColumnType.{ColumnType}
+use Rattle.lb_stmt.specs.declared.change.ColumnType.TheVariants as types
+use Rattle.lb_stmt.specs.declared.change.Element.{Element}
+use Rattle.lb_stmt.specs.declared.change.Element.TheVariants as elements
+use Rattle.lb_stmt.specs.declared.change.Switch.{Switch}
+use Rattle.lb_stmt.specs.declared.change.Switch.TheVariants as switches
+use Rattle.lb_stmt.specs.declared.change.ControlOf.{ControlOf}
+use Rattle.lb_stmt.specs.declared.change.ControlOf.TheVariants as controls
+use Rattle.lb_stmt.specs.declared.change.Activation.{Activation}
+use Rattle.lb_stmt.specs.declared.change.TreeElement.{TreeElement}
+use Rattle.lb_stmt.specs.declared.change.ComponentDef.{ComponentDef}
+use Rattle.lb_stmt.specs.declared.change.WriteOption.{WriteOption}
+use Rattle.lb_stmt.specs.declared.change.WriteOption.TheVariants as options
+use Rattle.lb_stmt.specs.declared.change.LabelName.{LabelName}
+use Rattle.lb_stmt.specs.declared.change.LabelPart.{LabelPart}
+use Rattle.lb_stmt.specs.declared.change.Access.{Access}
+use Rattle.lb_stmt.specs.declared.change.Access.TheVariants as accesses
+use Rattle.lb_stmt.specs.declared.change.RuleName.{RuleName}
+use Rattle.lb_stmt.specs.declared.change.RuleName.TheVariants as rules
+use Rattle.lb_stmt.specs.declared.change.TableRight.{TableRight}
+use Rattle.lb_stmt.specs.declared.change.TableRight.TheVariants as rights
+use Rattle.lb_stmt.specs.declared.change.Grantee.{Grantee}
+use Rattle.lb_stmt.specs.declared.change.Grantee.TheVariants as grantees
+use Rattle.lb_stmt.specs.declared.change.Change.{Change}
+use Rattle.lb_stmt.specs.declared.change.Change.TheVariants as changes
 use Rattle.lb_tok.specs.declared.kind.Kind.{Kind}
 use Rattle.lb_tok.specs.declared.kind.Kind.TheVariants as kinds
 use Rattle.lb_tok.specs.declared.token.Token.{Token}

@@ -4,16 +4,16 @@ use Rattle.std.specs.Prelude.{nat_le}
 use Rattle.std.specs.List.{flat_map}
 use Rattle.std.specs.Option.{option_and_then}
 use Rattle.std.proofs.lemmas.Bool.Decides.{nat_tests}
-use Rattle.lb_base.specs.declared.query.Aggregate.{Aggregate}
-use Rattle.lb_base.specs.declared.query.Aggregate.TheVariants as aggregates
-use Rattle.lb_base.specs.declared.query.Function.{Function}
-use Rattle.lb_base.specs.declared.query.Function.TheVariants as functions
-use Rattle.lb_base.specs.declared.query.Atom.TheVariants as atoms
-use Rattle.lb_base.specs.declared.query.Expr.{Expr}
-use Rattle.lb_base.specs.declared.query.Expr.TheVariants as exprs
-use Rattle.lb_base.specs.declared.query.Arm.{Arm}
-use Rattle.lb_base.specs.declared.query.Choice.{Choice}
-use Rattle.lb_base.specs.declared.query.Signed.{Signed}
+use Rattle.lb_tree.specs.declared.query.Aggregate.{Aggregate}
+use Rattle.lb_tree.specs.declared.query.Aggregate.TheVariants as aggregates
+use Rattle.lb_tree.specs.declared.query.Function.{Function}
+use Rattle.lb_tree.specs.declared.query.Function.TheVariants as functions
+use Rattle.lb_tree.specs.declared.query.Atom.TheVariants as atoms
+use Rattle.lb_tree.specs.declared.query.Expr.{Expr}
+use Rattle.lb_tree.specs.declared.query.Expr.TheVariants as exprs
+use Rattle.lb_tree.specs.declared.query.Arm.{Arm}
+use Rattle.lb_tree.specs.declared.query.Choice.{Choice}
+use Rattle.lb_tree.specs.declared.query.Signed.{Signed}
 use Rattle.lb_tok.specs.declared.kind.Kind.{Kind}
 use Rattle.lb_tok.specs.declared.kind.Kind.TheVariants as kinds
 use Rattle.lb_tok.specs.declared.call.Call.{Call}

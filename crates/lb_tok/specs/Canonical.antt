@@ -1,14 +1,14 @@
 -- The canonical text of a statement.
 use Rattle.std.specs.Prelude.{ℕ, List, [], ◌∷◌, ◌++◌, map, Option, Some, None}
-use Rattle.lb_base.specs.declared.query.Expr.{Expr}
-use Rattle.lb_base.specs.declared.write.InsertSource.{InsertSource}
-use Rattle.lb_base.specs.declared.write.InsertSource.TheVariants as sources
-use Rattle.lb_base.specs.declared.write.Insert.{Insert}
-use Rattle.lb_base.specs.declared.write.Assignment.{Assignment}
-use Rattle.lb_base.specs.declared.write.Update.{Update}
-use Rattle.lb_base.specs.declared.write.Delete.{Delete}
-use Rattle.lb_base.specs.declared.write.Stmt.{Stmt}
-use Rattle.lb_base.specs.declared.write.Stmt.TheVariants as stmts
+use Rattle.lb_tree.specs.declared.query.Expr.{Expr}
+use Rattle.lb_stmt.specs.declared.write.InsertSource.{InsertSource}
+use Rattle.lb_stmt.specs.declared.write.InsertSource.TheVariants as sources
+use Rattle.lb_stmt.specs.declared.write.Insert.{Insert}
+use Rattle.lb_stmt.specs.declared.write.Assignment.{Assignment}
+use Rattle.lb_stmt.specs.declared.write.Update.{Update}
+use Rattle.lb_stmt.specs.declared.write.Delete.{Delete}
+use Rattle.lb_stmt.specs.declared.write.Stmt.{Stmt}
+use Rattle.lb_stmt.specs.declared.write.Stmt.TheVariants as stmts
 use Rattle.lb_tok.specs.declared.kind.Kind.TheVariants as kinds
 use Rattle.lb_tok.specs.declared.token.Token.{Token}
 use Rattle.lb_tok.specs.Spacing.{Piece, mark, name, tokens_in, spaced}

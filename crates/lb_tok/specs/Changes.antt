@@ -1,34 +1,34 @@
 -- The grammar of statements that change the catalogue, and of all statements.
 use Rattle.std.specs.Prelude.{ℕ, List, [], ◌∷◌, ◌++◌, Bool, true, false, ◌||◌, Option, Some, None}
-use Rattle.lb_base.specs.declared.change.PlainType.{PlainType}
-use Rattle.lb_base.specs.declared.change.PlainType.TheVariants as plains
-use Rattle.lb_base.specs.declared.change.ColumnType.{ColumnType}
-use Rattle.lb_base.specs.declared.change.ColumnType.TheVariants as types
-use Rattle.lb_base.specs.declared.change.Element.{Element}
-use Rattle.lb_base.specs.declared.change.Element.TheVariants as elements
-use Rattle.lb_base.specs.declared.change.Switch.{Switch}
-use Rattle.lb_base.specs.declared.change.Switch.TheVariants as switches
-use Rattle.lb_base.specs.declared.change.ControlOf.TheVariants as controls
-use Rattle.lb_base.specs.declared.change.Activation.{Activation}
-use Rattle.lb_base.specs.declared.change.TreeElement.{TreeElement}
-use Rattle.lb_base.specs.declared.change.ComponentDef.{ComponentDef}
-use Rattle.lb_base.specs.declared.change.ComponentDef.TheVariants as components
-use Rattle.lb_base.specs.declared.change.WriteOption.{WriteOption}
-use Rattle.lb_base.specs.declared.change.WriteOption.TheVariants as options
-use Rattle.lb_base.specs.declared.change.LabelName.{LabelName}
-use Rattle.lb_base.specs.declared.change.LabelPart.{LabelPart}
-use Rattle.lb_base.specs.declared.change.Access.{Access}
-use Rattle.lb_base.specs.declared.change.Access.TheVariants as accesses
-use Rattle.lb_base.specs.declared.change.RuleName.{RuleName}
-use Rattle.lb_base.specs.declared.change.RuleName.TheVariants as rules
-use Rattle.lb_base.specs.declared.change.TableRight.{TableRight}
-use Rattle.lb_base.specs.declared.change.TableRight.TheVariants as rights
-use Rattle.lb_base.specs.declared.change.Grantee.{Grantee}
-use Rattle.lb_base.specs.declared.change.Grantee.TheVariants as grantees
-use Rattle.lb_base.specs.declared.change.Change.{Change}
-use Rattle.lb_base.specs.declared.change.Change.TheVariants as changes
-use Rattle.lb_base.specs.declared.write.Stmt.{Stmt}
-use Rattle.lb_base.specs.declared.write.Stmt.TheVariants as stmts
+use Rattle.lb_stmt.specs.declared.change.PlainType.{PlainType}
+use Rattle.lb_stmt.specs.declared.change.PlainType.TheVariants as plains
+use Rattle.lb_stmt.specs.declared.change.ColumnType.{ColumnType}
+use Rattle.lb_stmt.specs.declared.change.ColumnType.TheVariants as types
+use Rattle.lb_stmt.specs.declared.change.Element.{Element}
+use Rattle.lb_stmt.specs.declared.change.Element.TheVariants as elements
+use Rattle.lb_stmt.specs.declared.change.Switch.{Switch}
+use Rattle.lb_stmt.specs.declared.change.Switch.TheVariants as switches
+use Rattle.lb_stmt.specs.declared.change.ControlOf.TheVariants as controls
+use Rattle.lb_stmt.specs.declared.change.Activation.{Activation}
+use Rattle.lb_stmt.specs.declared.change.TreeElement.{TreeElement}
+use Rattle.lb_stmt.specs.declared.change.ComponentDef.{ComponentDef}
+use Rattle.lb_stmt.specs.declared.change.ComponentDef.TheVariants as components
+use Rattle.lb_stmt.specs.declared.change.WriteOption.{WriteOption}
+use Rattle.lb_stmt.specs.declared.change.WriteOption.TheVariants as options
+use Rattle.lb_stmt.specs.declared.change.LabelName.{LabelName}
+use Rattle.lb_stmt.specs.declared.change.LabelPart.{LabelPart}
+use Rattle.lb_stmt.specs.declared.change.Access.{Access}
+use Rattle.lb_stmt.specs.declared.change.Access.TheVariants as accesses
+use Rattle.lb_stmt.specs.declared.change.RuleName.{RuleName}
+use Rattle.lb_stmt.specs.declared.change.RuleName.TheVariants as rules
+use Rattle.lb_stmt.specs.declared.change.TableRight.{TableRight}
+use Rattle.lb_stmt.specs.declared.change.TableRight.TheVariants as rights
+use Rattle.lb_stmt.specs.declared.change.Grantee.{Grantee}
+use Rattle.lb_stmt.specs.declared.change.Grantee.TheVariants as grantees
+use Rattle.lb_stmt.specs.declared.change.Change.{Change}
+use Rattle.lb_stmt.specs.declared.change.Change.TheVariants as changes
+use Rattle.lb_stmt.specs.declared.write.Stmt.{Stmt}
+use Rattle.lb_stmt.specs.declared.write.Stmt.TheVariants as stmts
 use Rattle.lb_tok.specs.declared.kind.Kind.{Kind}
 use Rattle.lb_tok.specs.declared.kind.Kind.TheVariants as kinds
 use Rattle.lb_tok.specs.declared.token.Token.{Token}

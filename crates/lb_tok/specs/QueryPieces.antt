@@ -1,31 +1,31 @@
 -- The pieces of queries, conditions and expressions in canonical order.
 use Rattle.std.specs.Prelude.{ℕ, suc, Bool, true, false, nat_le, List, [], ◌∷◌, ◌++◌, map, Option, Some, None, ℤ, pos, negsuc}
 use Rattle.std.specs.List.{flat_map}
-use Rattle.lb_base.specs.declared.query.Comparison.{Comparison}
-use Rattle.lb_base.specs.declared.query.Comparison.TheVariants as comparisons
-use Rattle.lb_base.specs.declared.query.Aggregate.{Aggregate}
-use Rattle.lb_base.specs.declared.query.Aggregate.TheVariants as aggregates
-use Rattle.lb_base.specs.declared.query.Function.{Function}
-use Rattle.lb_base.specs.declared.query.Function.TheVariants as functions
-use Rattle.lb_base.specs.declared.query.Direction.{Direction}
-use Rattle.lb_base.specs.declared.query.Direction.TheVariants as directions
-use Rattle.lb_base.specs.declared.query.Atom.{Atom}
-use Rattle.lb_base.specs.declared.query.Atom.TheVariants as atoms
-use Rattle.lb_base.specs.declared.query.Column.{Column}
-use Rattle.lb_base.specs.declared.query.Tab.{Tab}
-use Rattle.lb_base.specs.declared.query.Expr.{Expr}
-use Rattle.lb_base.specs.declared.query.Cond.{Cond}
-use Rattle.lb_base.specs.declared.query.Item.{Item}
-use Rattle.lb_base.specs.declared.query.Join.{Join}
-use Rattle.lb_base.specs.declared.query.Arm.{Arm}
-use Rattle.lb_base.specs.declared.query.Chain.{Chain}
-use Rattle.lb_base.specs.declared.query.Choice.{Choice}
-use Rattle.lb_base.specs.declared.query.Query.{Query}
-use Rattle.lb_base.specs.declared.query.Signed.{Signed}
-use Rattle.lb_base.specs.declared.query.SortKey.{SortKey}
-use Rattle.lb_base.specs.declared.query.Select.{Select}
-use Rattle.lb_base.specs.declared.query.Cond.TheOpen as layers
-use Rattle.lb_base.specs.declared.query.Cond.TheFolds.{fold-Cond, fold-Expr, fold-Item, fold-Join, fold-Arm, fold-Chain, fold-Choice, fold-Query, fold-Signed}
+use Rattle.lb_tree.specs.declared.query.Comparison.{Comparison}
+use Rattle.lb_tree.specs.declared.query.Comparison.TheVariants as comparisons
+use Rattle.lb_tree.specs.declared.query.Aggregate.{Aggregate}
+use Rattle.lb_tree.specs.declared.query.Aggregate.TheVariants as aggregates
+use Rattle.lb_tree.specs.declared.query.Function.{Function}
+use Rattle.lb_tree.specs.declared.query.Function.TheVariants as functions
+use Rattle.lb_tree.specs.declared.query.Direction.{Direction}
+use Rattle.lb_tree.specs.declared.query.Direction.TheVariants as directions
+use Rattle.lb_tree.specs.declared.query.Atom.{Atom}
+use Rattle.lb_tree.specs.declared.query.Atom.TheVariants as atoms
+use Rattle.lb_tree.specs.declared.query.Column.{Column}
+use Rattle.lb_tree.specs.declared.query.Tab.{Tab}
+use Rattle.lb_tree.specs.declared.query.Expr.{Expr}
+use Rattle.lb_tree.specs.declared.query.Cond.{Cond}
+use Rattle.lb_tree.specs.declared.query.Item.{Item}
+use Rattle.lb_tree.specs.declared.query.Join.{Join}
+use Rattle.lb_tree.specs.declared.query.Arm.{Arm}
+use Rattle.lb_tree.specs.declared.query.Chain.{Chain}
+use Rattle.lb_tree.specs.declared.query.Choice.{Choice}
+use Rattle.lb_tree.specs.declared.query.Query.{Query}
+use Rattle.lb_tree.specs.declared.query.Signed.{Signed}
+use Rattle.lb_tree.specs.declared.query.SortKey.{SortKey}
+use Rattle.lb_tree.specs.declared.query.Select.{Select}
+use Rattle.lb_tree.specs.declared.query.Cond.TheOpen as layers
+use Rattle.lb_tree.specs.declared.query.Cond.TheFolds.{fold-Cond, fold-Expr, fold-Item, fold-Join, fold-Arm, fold-Chain, fold-Choice, fold-Query, fold-Signed}
 use Rattle.lb_tok.specs.declared.kind.Kind.{Kind}
 use Rattle.lb_tok.specs.declared.kind.Kind.TheVariants as kinds
 use Rattle.lb_tok.specs.Dates.{date_text}

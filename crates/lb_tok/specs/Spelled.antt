@@ -1,6 +1,6 @@
 -- The statement that a text spells.
 use Rattle.std.specs.Prelude.{ℕ, List, None}
-use Rattle.lb_base.specs.declared.write.Stmt.{Stmt}
+use Rattle.lb_stmt.specs.declared.write.Stmt.{Stmt}
 use Rattle.lb_tok.specs.declared.token.Token.{Token}
 use Rattle.lb_tok.specs.declared.token.Span.{Span}
 use Rattle.lb_tok.specs.Lexing.{LexedFrom}

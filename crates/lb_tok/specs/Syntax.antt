@@ -1,7 +1,7 @@
 -- When a text is no statement, and at which of its bytes it goes wrong.
 use Rattle.std.specs.Prelude.{ℕ, ◌≡◌, ◌≤◌, ◌<◌, List, length, None, IsUtf8, ◌⊎◌}
 use Rattle.std.specs.Str.{IsValidUpTo}
-use Rattle.lb_base.specs.declared.write.Stmt.{Stmt}
+use Rattle.lb_stmt.specs.declared.write.Stmt.{Stmt}
 use Rattle.lb_tok.specs.declared.lex.ReadFault.{ReadFault}
 use Rattle.lb_tok.specs.declared.lex.ReadFault.TheVariants as faults
 use Rattle.lb_tok.specs.declared.token.Tokens.{Tokens}

@@ -1,10 +1,10 @@
 -- What single tokens say.
 use Rattle.std.specs.Prelude.{ℕ, ◌^◌, ◌&&◌, List, Bool, true, false, Option, Some, None, ℤ, pos, neg_ℤ, nat_lt, nat_le, if◌then◌else◌}
 use Rattle.std.specs.Option.{option_and_then}
-use Rattle.lb_base.specs.declared.query.Comparison.{Comparison}
-use Rattle.lb_base.specs.declared.query.Comparison.TheVariants as comparisons
-use Rattle.lb_base.specs.declared.query.Aggregate.TheVariants as aggregates
-use Rattle.lb_base.specs.declared.query.Function.TheVariants as functions
+use Rattle.lb_tree.specs.declared.query.Comparison.{Comparison}
+use Rattle.lb_tree.specs.declared.query.Comparison.TheVariants as comparisons
+use Rattle.lb_tree.specs.declared.query.Aggregate.TheVariants as aggregates
+use Rattle.lb_tree.specs.declared.query.Function.TheVariants as functions
 use Rattle.lb_base.specs.Days.{day_of}
 use Rattle.lb_tok.specs.declared.kind.Kind.{Kind}
 use Rattle.lb_tok.specs.declared.kind.Kind.TheVariants as kinds

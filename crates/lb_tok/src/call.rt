@@ -3,7 +3,7 @@ ghost use Rattle.std.specs.Prelude.{◌≡◌};
 ghost use Rattle.lb_tok.specs.Words.{call_of, comparison_of, is_date};
 
 use crate::Kind;
-use lb_base::{Aggregate, Comparison, Function};
+use lb_tree::{Aggregate, Comparison, Function};
 
 /// What a function's name stands for. `DATE` is one of them, since a literal may follow it.
 #[derive(Clone, Copy, Debug, PartialEq, Eq)]

@@ -1,6 +1,6 @@
 // What holds of texts and their tokens.
 ghost use Rattle.std.specs.Prelude.{◌≡◌, ℕ, List};
-ghost use Rattle.lb_base.specs.declared.write.Stmt.{Stmt};
+ghost use Rattle.lb_stmt.specs.declared.write.Stmt.{Stmt};
 ghost use Rattle.lb_tok.specs.declared.token.Token.{Token};
 ghost use Rattle.lb_tok.specs.Canonical.{canonical, tokens_of};
 ghost use Rattle.lb_tok.specs.Spelled.{AreTokens, IsSpoken, Spelled};

@@ -7,7 +7,7 @@ use Rattle.lb_split.specs.Pieces.{pieces_of}
 use Rattle.lb_split.specs.Scripts.{text_in}
 use Rattle.lb_split.specs.declared.piece.Piece.{Piece}
 use Rattle.lb_split.specs.declared.piece.Piece.TheVariants as pieces
-use Rattle.lb_base.specs.declared.write.Stmt.{Stmt}
+use Rattle.lb_stmt.specs.declared.write.Stmt.{Stmt}
 use Rattle.lb_tok.specs.Canonical.{canonical}
 use Rattle.lb_tok.specs.Syntax.{IsReadable, IsSyntaxAt}
 use Rattle.lbac_canonical.specs.declared.line.Line.{Line}

@@ -6,6 +6,8 @@ mod base;
 #[cfg(test)]
 mod block;
 #[cfg(test)]
+mod copies;
+#[cfg(test)]
 mod entries;
 #[cfg(test)]
 mod read;

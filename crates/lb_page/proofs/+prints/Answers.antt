@@ -1,9 +1,9 @@
 -- Each loop prints one part more.
 use Rattle.std.proofs.Common.{◌≡◌, ◌∙◌, ap, subst, OnOk, List}
 use Rattle.std.specs.List.{flat_map}
-use Rattle.lb_base.specs.declared.query.Arm.{Arm}
-use Rattle.lb_base.specs.declared.query.Choice.{Choice}
-use Rattle.lb_base.specs.declared.query.Expr.{Expr}
+use Rattle.lb_tree.specs.declared.query.Arm.{Arm}
+use Rattle.lb_tree.specs.declared.query.Choice.{Choice}
+use Rattle.lb_tree.specs.declared.query.Expr.{Expr}
 use Rattle.lb_tok.specs.declared.kind.Kind.TheVariants as kinds
 use Rattle.lb_tok.specs.Spacing.{Layout, lay, laid, mark}
 use Rattle.lb_tok.specs.QueryPieces.{at_least, expr_phrase, expr_pieces, cond_phrase, arm_pieces, choice_pieces, item_pieces, chain_pieces, join_pieces}

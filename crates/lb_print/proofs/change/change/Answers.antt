@@ -1,5 +1,5 @@
 use Rattle.std.proofs.Common.{◌≡◌, OnOk, subst, sym}
-use Rattle.lb_base.specs.declared.change.Change.{Change}
+use Rattle.lb_stmt.specs.declared.change.Change.{Change}
 use Rattle.lb_tok.specs.ChangePieces.{change_pieces}
 use Rattle.lb_tok.specs.Spacing.{laid}
 use Rattle.lb_print.proofs.change.change.Goals as goal

@@ -1,5 +1,5 @@
 use Rattle.std.proofs.Common.{◌∙◌, ap, List}
-use Rattle.lb_base.specs.declared.query.Expr.{Expr}
+use Rattle.lb_tree.specs.declared.query.Expr.{Expr}
 use Rattle.lb_tok.specs.declared.kind.Kind.TheVariants as kinds
 use Rattle.lb_tok.specs.Spacing.{laid}
 use Rattle.lb_tok.specs.Canonical.{row_pieces}
