@@ -1,5 +1,5 @@
 -- A section: its session was opened now, or it has none.
-use Rattle.std.proofs.Common.{◌≡◌, ◌⊎◌, inl, inr, ℕ, ◌≤◌, List, [], ◌∷◌, ◌++◌, length, take, Option, Some, None, Result, Ok, Err, refl, sym, ap, subst, ◌∙◌}
+use Rattle.std.proofs.Common.{◌≡◌, inl, inr, ℕ, List, [], ◌∷◌, length, Option, Result, Ok, Err, refl, sym, ap, subst, ◌∙◌}
 use Rattle.std.specs.Prelude.{ℤ, OnOk, OnErr}
 use Rattle.lb_front.specs.declared.output.Cut.{Cut}
 use Rattle.std.proofs.lemmas.List.{append-nil}
@@ -7,7 +7,7 @@ use Rattle.lb_wire.specs.Told.{Grows}
 use Rattle.lb_wire.proofs.Told.{Grows-nil, Appends-nil}
 use Rattle.lb_model.specs.declared.entry.Entry.{Entry}
 use Rattle.lb_model.specs.declared.reply.Answer.{Answer}
-use Rattle.lb_model.specs.Journal.{IsMade, mine}
+use Rattle.lb_model.specs.Journal.{IsMade}
 use Rattle.lb_model.specs.Told.{places, places_and}
 use Rattle.lb_model.specs.Sections.{Section, full, AreShut}
 use Rattle.lb_model.specs.Telling.{RanSection, first_of}
@@ -16,7 +16,7 @@ use Rattle.lb_front.specs.declared.stop.Stop.{Stop}
 use Rattle.lb_front.specs.declared.stop.Stop.TheVariants as stops
 use Rattle.lb_front.specs.Booked.{IsOpened, IsShut}
 use Rattle.lb_front.specs.Headline.{Outside}
-use Rattle.lb_front.specs.Running.{SectionRan, SectionPart, SectionCut, NotBegun, ShutRan, ShutPart, session_section}
+use Rattle.lb_front.specs.Running.{SectionRan, SectionPart, SectionCut, ShutRan, ShutPart, session_section}
 
 -- ---- without a session
 

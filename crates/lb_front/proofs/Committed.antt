@@ -18,10 +18,9 @@ use Rattle.lb_model.specs.declared.reply.Mark.{Mark}
 use Rattle.lb_model.specs.declared.reply.Mark.TheVariants as marks
 use Rattle.lb_model.specs.declared.reply.Reply.{Reply}
 use Rattle.lb_model.specs.declared.reply.Reply.TheVariants as replies
-use Rattle.lb_model.specs.Catalog.{Cat, Tables}
 use Rattle.lb_model.specs.Answer.{is_query}
-use Rattle.lb_model.specs.Step.{State, first, step, after}
-use Rattle.lb_model.specs.Journal.{IsMade, Speaks, IsDay, FollowsSaid, Follows, opened_by, said_by, is_said_by, opens}
+use Rattle.lb_model.specs.Step.{State, first, after}
+use Rattle.lb_model.specs.Journal.{IsMade, Speaks, IsDay, FollowsSaid, opened_by, said_by, is_said_by, opens}
 use Rattle.lb_model.specs.Replay.{Steps, Replay, Rep}
 use Rattle.lb_model.specs.NotYet.{IsUnbuilt}
 use Rattle.lb_model.specs.Told.{Placed, IsUnplaced, Unplaced, mark_of}

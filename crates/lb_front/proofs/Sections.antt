@@ -1,5 +1,5 @@
 -- A script, one section after the other.
-use Rattle.std.proofs.Common.{◌≡◌, ◌⊎◌, inl, inr, ℕ, ◌+◌, ◌<◌, ◌≤◌, List, [], ◌∷◌, ◌++◌, length, take, flat_map, map, Option, Some, None, refl, sym, ap, subst, ◌∙◌, append_assoc, arith}
+use Rattle.std.proofs.Common.{◌≡◌, inl, inr, ℕ, ◌+◌, ◌≤◌, List, [], ◌∷◌, ◌++◌, length, take, flat_map, map, Option, Some, None, refl, sym, ap, subst, ◌∙◌, append_assoc, arith}
 use Rattle.std.specs.Prelude.{ℤ, drop, MatchOption}
 use Rattle.lb_split.specs.declared.script.Script.{Script}
 use Rattle.lb_split.specs.declared.script.Section.{Section as SpanSection}
@@ -13,15 +13,15 @@ use Rattle.lb_wire.specs.declared.status.Status.{Status}
 use Rattle.lb_wire.specs.declared.status.Status.TheVariants as statuses
 use Rattle.lb_model.specs.declared.entry.Entry.{Entry}
 use Rattle.lb_model.specs.Journal.{opens}
-use Rattle.lb_model.specs.Sections.{Section, Outcome, Journaled, out, section_text, IsFront}
-use Rattle.lb_model.specs.Telling.{RanSection, first_of}
+use Rattle.lb_model.specs.Sections.{Section, Outcome, Journaled, out, section_text}
+use Rattle.lb_model.specs.Telling.{first_of}
 use Rattle.lb_model.proofs.Sectioned.{Sofar, sofar_more, sofar_out, front_whole, front_part}
 use Rattle.lb_refr.specs.Stored.{Stored}
 use Rattle.lb_front.specs.declared.output.Cut.{Cut}
 use Rattle.lb_front.specs.declared.output.Cut.TheVariants as cuts
 use Rattle.lb_front.specs.Booked.{Stands}
 use Rattle.lb_front.specs.Headline.{Outside, days_of, Ran, RanPart}
-use Rattle.lb_front.specs.Running.{SectionRan, SectionPart, NotBegun, SectionCut, Progress, SectionsLoop, RanBehind, CutBehind, ScriptEnds, cut_status}
+use Rattle.lb_front.specs.Running.{SectionRan, SectionCut, Progress, SectionsLoop, RanBehind, CutBehind, ScriptEnds, cut_status}
 
 days_more : (os : List Outcome) (o : Outcome) → days_of (os ++ o ∷ []) ≡ days_of os ++ o.days
 days_more os o = flat_map-append (λ (x : Outcome). x.days) os (o ∷ []) ∙ ap (λ (t : List ℤ). days_of os ++ t) (append-nil o.days)

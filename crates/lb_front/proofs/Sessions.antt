@@ -1,8 +1,8 @@
 -- A session, one statement after the other.
-use Rattle.std.proofs.Common.{◌≡◌, inl, inr, ℕ, zero, ◌+◌, ◌≤◌, List, [], ◌∷◌, ◌++◌, length, take, flat_map, Option, Some, None, refl, sym, ap, subst, ◌∙◌, append_assoc, arith}
+use Rattle.std.proofs.Common.{◌≡◌, ℕ, ◌+◌, ◌≤◌, List, [], ◌∷◌, ◌++◌, length, take, flat_map, Option, Some, None, refl, sym, ap, subst, ◌∙◌, append_assoc, arith}
 use Rattle.std.specs.Prelude.{ℤ}
 use Rattle.std.specs.Io.KnownBytes.{Appends}
-use Rattle.std.proofs.lemmas.List.{append-nil, take_all, take-append-le}
+use Rattle.std.proofs.lemmas.List.{append-nil, take_all}
 use Rattle.std.proofs.lemmas.List.Concat.{flat_map-append}
 use Rattle.lb_wire.specs.Told.{Grows, AppendsPart}
 use Rattle.lb_wire.proofs.Told.{Grows-nil, Grows-then, Appends-then, AppendsPart-then}
@@ -13,14 +13,14 @@ use Rattle.lb_model.specs.declared.reply.Answer.{Answer}
 use Rattle.lb_model.specs.Journal.{IsMade, opens}
 use Rattle.lb_model.specs.Out.{header_text, block_text}
 use Rattle.lb_model.specs.Told.{Placed, Unplaced}
-use Rattle.lb_model.specs.Sections.{Section, opened, Outcome, section_text}
-use Rattle.lb_model.specs.Telling.{Telling, RanSection, first_of}
+use Rattle.lb_model.specs.Sections.{opened, section_text}
+use Rattle.lb_model.specs.Telling.{Telling}
 use Rattle.lb_model.proofs.Telling.{telling_first, telling_unplaced, telling_placed, ran_session}
 use Rattle.lb_model.proofs.Sessions.{opens_with_said}
 use Rattle.lb_refr.specs.Stored.{Stored}
 use Rattle.lb_front.specs.declared.book.Session.{Session}
 use Rattle.lb_front.specs.Booked.{Stands, IsSeated, IsOpened}
-use Rattle.lb_front.specs.Executed.{Left, Added, Executed, ExecutedAt}
+use Rattle.lb_front.specs.Executed.{Executed, ExecutedAt}
 use Rattle.lb_front.specs.Headline.{Outside}
 use Rattle.lb_front.specs.Running.{SectionRan, SectionPart, session_section, SessionProgress, IsSame, SessionLoops}
 

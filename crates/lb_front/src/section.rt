@@ -1,5 +1,5 @@
 // The run of one section.
-ghost use Rattle.std.specs.Prelude.{◌≡◌, ◌≤◌, ◌<◌, ◌^◌, ℕ, List, map, OnOk, OnErr, Err};
+ghost use Rattle.std.specs.Prelude.{◌≡◌, ◌≤◌, ◌<◌, List, map, OnOk, OnErr, Err};
 ghost use Rattle.lb_wire.specs.Causes.{Rose};
 ghost use Rattle.lb_model.specs.declared.entry.Entry.{Entry};
 ghost use Rattle.lb_model.specs.Journal.{IsMade, opens};

@@ -1,10 +1,10 @@
 -- The course of a run: which entries each statement, each session and the whole script put behind those before them. What is told of a journal
 -- gives the course that led to it.
-use Rattle.std.proofs.Common.{Bool, true, false, cond, ◌≡◌, ◌⊎◌, inl, inr, ℕ, zero, suc, ◌+◌, ◌<◌, ◌≤◌, List, [], ◌∷◌, ◌++◌, length, take, flat_map, Option, Some, None, refl, sym, ap, subst, ◌∙◌, append_assoc, zero-add, arith}
+use Rattle.std.proofs.Common.{Bool, true, false, cond, ◌≡◌, ◌⊎◌, inl, inr, ℕ, zero, suc, ◌+◌, ◌<◌, ◌≤◌, List, [], ◌∷◌, ◌++◌, length, take, flat_map, Option, Some, None, refl, sym, ap, subst, ◌∙◌, zero-add, arith}
 use Rattle.std.specs.Prelude.{ℤ, slice_get, ◌==◌}
 use Rattle.std.proofs.lemmas.Bool.Decides.{nat_tests}
 use Rattle.std.proofs.lemmas.Option.{slice_get_within, get_or_from_slice_get}
-use Rattle.std.proofs.lemmas.List.{append-nil, length-append, length-take-le, take_all, take_more}
+use Rattle.std.proofs.lemmas.List.{length-append, length-take-le, take_all, take_more}
 use Rattle.lb_stmt.specs.declared.write.Stmt.{Stmt}
 use Rattle.lb_tok.specs.Canonical.{canonical}
 use Rattle.lb_model.proofs.There.{made_at}
@@ -16,7 +16,7 @@ use Rattle.lb_model.specs.declared.reply.Mark.TheVariants as marks
 use Rattle.lb_model.specs.declared.reply.Reply.{Reply}
 use Rattle.lb_model.specs.declared.reply.Reply.TheVariants as replies
 use Rattle.lb_model.specs.Step.{State}
-use Rattle.lb_model.specs.Journal.{Follows, FollowsSaid, MadeFrom, IsMade, opens, mine_from, mine}
+use Rattle.lb_model.specs.Journal.{FollowsSaid, IsMade, opens, mine_from, mine}
 use Rattle.lb_model.specs.Replay.{Replay, Replies}
 use Rattle.lb_model.specs.NotYet.{IsBuilt}
 use Rattle.lb_model.specs.Told.{mark_of, Placed, IsUnplaced, Unplaced, Told, places, places_and, count_from}

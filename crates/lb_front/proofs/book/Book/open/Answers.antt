@@ -1,4 +1,4 @@
-use Rattle.std.proofs.Common.{refl, sym, ◌≡◌, ◌∙◌, arith}
+use Rattle.std.proofs.Common.{refl, sym, ◌∙◌, arith}
 use Rattle.lb_front.proofs.Committed.{stands_opened, seated_opened}
 use Rattle.lb_front.proofs.book.Book.open.Goals as goal
 
