@@ -5,7 +5,7 @@ ghost use Rattle.lb_model.specs.Answer.{literal_value, given_rows as rows_of_sou
 ghost use Rattle.lb_model.specs.NotYet.{rows_given};
 
 use crate::find::{place_of_version, table_of};
-use crate::permission::{are_rows_insertable, enabled_names};
+use crate::condition::{are_rows_insertable, enabled_names};
 use crate::refused::unknown;
 use lb_base::{Listing, Name, NoMemory, Row, RowList, Str, Value};
 use lb_model::{Refusal, Reply, TableRec, TableVersion, Verb};

@@ -5,7 +5,7 @@ ghost use Rattle.lb_model.specs.Catalog.{table_named, rows_of};
 ghost use Rattle.lb_model.specs.NotYet.{is_too_wide, fits, is_insert_unbuilt};
 
 use crate::find::{place_of_version, table_of};
-use crate::permission::are_rows_insertable;
+use crate::condition::are_rows_insertable;
 use lb_base::{Name, Row, Ty, Value};
 use lb_model::{ColumnRec, TableRec, TableVersion};
 

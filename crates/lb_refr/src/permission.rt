@@ -1,153 +1,118 @@
-// Row access control: which rows a user sees and may write.
-ghost use Rattle.std.specs.Prelude.{◌≡◌, ◌||◌, not, map, IfOk};
+// CREATE PERMISSION statement: the columns of its condition, and the condition as it is stored.
+ghost use Rattle.std.specs.Prelude.{◌≡◌, IfOk};
 ghost use Rattle.std.specs.Option.{option_copied};
-ghost use Rattle.std.specs.List.{list_all};
-ghost use Rattle.lb_model.specs.Evaluation.{frame_of, is_qualified_by, column_value, value_of, truth_of};
-ghost use Rattle.lb_model.specs.Visible.{enabled, grants, is_allowed};
-ghost use Rattle.lb_model.specs.Answer.{are_insertable};
-ghost use Rattle.lb_refr.specs.Texts.{text_of, same_text};
+ghost use Rattle.lb_tree.specs.declared.query.Cond.TheViews.{out-Expr};
+ghost use Rattle.lb_model.specs.Change.{columns_in, columns_of, first_missing, qualified_expr, qualified, is_enabled, name_or, new_permission as permission_meant};
 
-use lb_base::{Listing, Name, Names, NoMemory, Row, Truth, Value};
-use lb_model::{ColumnRec, PermissionRec, TableRec};
-use lb_tree::{Atom, Column, Comparison, Cond, Expr};
+use crate::find::is_column;
+use lb_base::{Name, NoMemory};
+use lb_model::{ColumnRec, PermissionRec};
+use lb_stmt::{PermissionDef, Switch};
+use lb_tree::{Atom, Column, Cond, Expr, Tab};
+use sqlite_items::Boxed;
 use std::alloc::Global;
 
-/// Whether the user may see or write the row: some enabled permission of the table is true for it
-/// (CREATE PERMISSION statement, Row access control).
-pub fn is_row_allowed(user: &Name, table: &TableRec, row: &[Value]) -> bool
-    ensures { result ≡ is_allowed user.now table.now row.now }
-{
-    let permissions = table.permissions.as_slice();
-    let mut enabled = permissions.iter().filter(|permission| permission.enabled);
-    enabled.any(|permission| is_granted(user, table, row, permission))
-}
-
-/// Whether each of the rows may be inserted.
-pub fn are_rows_insertable(user: &Name, table: &TableRec, rows: &[Row]) -> bool
-    ensures { result ≡ are_insertable user.now table.now rows.now }
-{
-    !table.row_control || are_rows_allowed(user, table, rows)
-}
-
-fn are_rows_allowed(user: &Name, table: &TableRec, rows: &[Row]) -> bool
-    ensures { result ≡ list_all (is_allowed user.now table.now) rows.now }
-{
-    for row in rows {
-        if !is_row_allowed(user, table, row.as_slice()) {
-            return false;
-        }
-    }
-    true
-}
-
-/// The names of the enabled permissions, in the order of creation.
-pub fn enabled_names(alloc: Global, table: &TableRec) -> Result<Names, NoMemory>
-    ensures { IfOk result (λ names. names ≡ map (λ p. p.name) (enabled table.now)) }
-{
-    let mut names = Listing::empty(alloc);
-    for permission in table.permissions.as_slice() {
-        if permission.enabled {
-            names.push(permission.name.copy()?)?;
-        }
-    }
-    Ok(names)
-}
-
-fn is_granted(user: &Name, table: &TableRec, row: &[Value], permission: &PermissionRec) -> bool
-    ensures { result ≡ grants user.now table.now row.now permission.now }
-{
-    let columns = table.columns.as_slice();
-    let truth = truth_in(
-        user,
-        &permission.correlation,
-        columns,
-        row,
-        &permission.condition,
-    );
-    match truth {
-        Truth::True => true,
-        Truth::False | Truth::Unknown => false,
-    }
-}
-
-// The truth of a stored condition over a row: a comparison is unknown where an operand is null.
-fn truth_in(
-    user: &Name,
-    correlation: &Name,
-    columns: &[ColumnRec],
-    row: &[Value],
-    condition: &Cond,
-) -> Truth
-    ensures { result ≡ truth_of user.now (frame_of correlation.now columns.now row.now) condition.now }
+/// The first column of the condition that the table lacks.
+pub fn missing_column<'a>(columns: &[ColumnRec], condition: &'a Cond) -> Option<&'a Name>
+    ensures { option_copied result ≡ first_missing columns.now (columns_of condition.now) }
 {
     match condition {
-        Cond::Compare(Comparison::Equal, a, b) => compared(
-            operand(user, correlation, columns, row, a.get()),
-            operand(user, correlation, columns, row, b.get()),
-        ),
-        _ => Truth::Unknown,
+        Cond::Compare(_, a, b) => match missing_in(columns, a.get()) {
+            Some(missing) => Some(missing),
+            None => missing_in(columns, b.get()),
+        },
+        _ => None,
     }
 }
 
-fn compared(a: Option<&str>, b: Option<&str>) -> Truth
-    ensures { result ≡ same_text (option_copied a.entry) (option_copied b.entry) }
-{
-    match (a, b) {
-        (Some(a), Some(b)) => { if a == b { Truth::True } else { Truth::False } }
-        _ => Truth::Unknown,
-    }
-}
-
-// The text that an operand stands for, if it stands for one.
-fn operand<'a>(
-    user: &'a Name,
-    correlation: &Name,
-    columns: &[ColumnRec],
-    row: &'a [Value],
-    expr: &Expr,
-) -> Option<&'a str>
-    ensures { option_copied result ≡ text_of (value_of user.now (frame_of correlation.now columns.now row.now) expr.now) }
+fn missing_in<'a>(columns: &[ColumnRec], expr: &'a Expr) -> Option<&'a Name>
+    ensures { option_copied result ≡ first_missing columns.now (columns_in (out-Expr expr.now)) }
 {
     match expr {
-        Expr::Atom(Atom::Column(column)) => text_in(column, correlation, columns, row),
-        Expr::Atom(Atom::SessionUser) => Some(user.as_str()),
-        _ => None,
-    }
-}
-
-fn text_in<'a>(
-    column: &Column,
-    correlation: &Name,
-    columns: &[ColumnRec],
-    row: &'a [Value],
-) -> Option<&'a str>
-    ensures { option_copied result ≡ text_of (column_value column.now (frame_of correlation.now columns.now row.now)) }
-{
-    for (i, record) in columns.iter().enumerate() {
-        let Some(value) = row.get(i) else {
-            return None;
-        };
-        if is_qualified(column, correlation) && column.name.is(&record.name) {
-            return text_value(value);
+        Expr::Atom(Atom::Column(column)) => {
+            if is_column(&column.name, columns) {
+                None
+            } else {
+                Some(&column.name)
+            }
         }
-    }
-    None
-}
-
-fn is_qualified(column: &Column, correlation: &Name) -> bool
-    ensures { result ≡ is_qualified_by column.now.correlation correlation.now }
-{
-    match &column.correlation {
-        None => true,
-        Some(written) => written.is(correlation),
-    }
-}
-
-fn text_value(value: &Value) -> Option<&str>
-    ensures { option_copied result ≡ text_of value.now }
-{
-    match value {
-        Value::Text(text) => Some(text.as_str()),
         _ => None,
+    }
+}
+
+/// The permission as the catalogue keeps it.
+pub fn new_permission(alloc: Global, definition: &PermissionDef) -> Result<PermissionRec, NoMemory>
+    ensures { IfOk result (λ p. p ≡ permission_meant definition.now) }
+{
+    let correlation = correlation_of(&definition.on);
+    let condition = qualified_condition(alloc, correlation, &definition.condition)?;
+    Ok(PermissionRec {
+        name: definition.name.copy()?,
+        correlation: correlation.copy()?,
+        condition,
+        enabled: is_on(definition.switch),
+    })
+}
+
+fn correlation_of(on: &Tab) -> &Name
+    ensures { result.now ≡ name_or on.now.correlation on.now.table }
+{
+    match &on.correlation {
+        Some(written) => written,
+        None => &on.table,
+    }
+}
+
+/// Whether the switch is ENABLE.
+pub fn is_on(switch: Switch) -> bool
+    ensures { result ≡ is_enabled switch }
+{
+    match switch {
+        Switch::Enable => true,
+        Switch::Disable => false,
+    }
+}
+
+// The condition with each of its columns qualified.
+fn qualified_condition(
+    alloc: Global,
+    correlation: &Name,
+    condition: &Cond,
+) -> Result<Cond, NoMemory>
+    ensures { IfOk result (λ q. q ≡ qualified correlation.now condition.now) }
+{
+    match condition {
+        Cond::Compare(by, a, b) => {
+            let a = qualified_operand(alloc, correlation, a.get())?;
+            let b = qualified_operand(alloc, correlation, b.get())?;
+            Ok(Cond::Compare(*by, a, b))
+        }
+        other => other.copy(alloc),
+    }
+}
+
+fn qualified_operand(
+    alloc: Global,
+    correlation: &Name,
+    expr: &Expr,
+) -> Result<Boxed<Expr>, NoMemory>
+    ensures { IfOk result (λ e. e ≡ qualified_expr correlation.now expr.now) }
+{
+    let expr = qualified_value(alloc, correlation, expr)?;
+    Boxed::new(alloc, expr)
+}
+
+fn qualified_value(alloc: Global, correlation: &Name, expr: &Expr) -> Result<Expr, NoMemory>
+    ensures { IfOk result (λ e. e ≡ qualified_expr correlation.now expr.now) }
+{
+    match expr {
+        Expr::Atom(Atom::Column(column)) => {
+            let column = Column {
+                correlation: Some(correlation.copy()?),
+                name: column.name.copy()?,
+            };
+            Ok(Expr::Atom(Atom::Column(column)))
+        }
+        other => other.copy(alloc),
     }
 }

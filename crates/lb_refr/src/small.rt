@@ -6,7 +6,7 @@ ghost use Rattle.lb_tree.specs.declared.query.Cond.TheViews.{out-Expr};
 ghost use Rattle.lb_model.specs.Small.{IsSmall, are_different};
 ghost use Rattle.lb_refr.specs.Shapes as shapes;
 
-use crate::condition::is_on;
+use crate::permission::is_on;
 use lb_base::Name;
 use lb_stmt::{
     Activation, Change, ColumnType, ControlOf, Element, Insert, InsertSource, PermissionDef,
