@@ -146,15 +146,12 @@ impl<S: Standing> Turn<S> {
         ensures whole { IsWhole (known_by (pass_of chief)) (S.history result) }
         ensures number { S.number result ≡ fixed_number S.number self }
     {
-        let Turn { table } = self;
         let Chief {
             pass: Pass { badge },
             passes: _,
         } = chief;
-        let mut closed = table.close_with(badge.into_seat::<Option<S>>());
-        let state = closed.take(0);
-        closed.free();
-        match state {
+        let seat = badge.into_seat::<Option<S>>();
+        match self.take_apart(seat) {
             Some(state) => state,
             None => unreachable!(),
         }

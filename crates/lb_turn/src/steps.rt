@@ -126,4 +126,20 @@ impl<S: Standing> Turn<S> {
         self.table.shared.join_seat::<Glue>(seat, other);
         self.table.shared.load::<Merge<S>>(seat, COUNT);
     }
+
+    /// Takes the table apart, and answers what was in its slot. The seat has all parts, so no other can have a ticket.
+    pub(crate) fn take_apart(self, seat: TurnSeat<S, S::Entry>) -> Option<S>
+        requires same { seat.table_id ≡ self.table.shared.table_id }
+        requires idle { (seat.me.0.role ≡ Idle) × (seat.me.0.other ≡ nothing) × (seat.me.1 ≡ []) }
+        requires all { seat.me.0.parts ≡ 65 }
+        ensures there { IsSome result }
+        ensures whole { IsWhole seat.me.0.known (history_of S.history result) }
+        ensures number { number_of S.number result ≡ S.number self.table.shared.key.value }
+    {
+        let Turn { table } = self;
+        let mut closed = table.close_with(seat);
+        let state = closed.take(0);
+        closed.free();
+        state
+    }
 }
