@@ -1,10 +1,10 @@
 -- Each kind of step keeps the rule of the turn.
-use Rattle.std.proofs.Common.{◌≡◌, ◌≢◌, inl, inr, ⊎_elim, ℕ, zero, suc, ◌+◌, ◌%◌, ◌^◌, ◌<◌, ◌≤◌, List, [], ◌∷◌, ◌++◌, length, set, drop, Option, Some, None, IsSome, refl, sym, ap, ◌∙◌, subst, arith, length-append, eq-eqb, ◌==◌, length-set, slice_index}
+use Rattle.std.proofs.Common.{◌≡◌, ◌≢◌, inl, inr, ⊎_elim, ℕ, zero, suc, ◌+◌, ◌-◌, ◌%◌, ◌^◌, ◌<◌, ◌≤◌, List, [], ◌∷◌, ◌++◌, length, set, drop, Option, Some, None, IsSome, refl, sym, ap, ◌∙◌, subst, arith, length-append, eq-eqb, ◌==◌, length-set, slice_index, lt_of_not-le}
 use Rattle.std.specs.List.{Contains}
 use Rattle.std.proofs.lemmas.List.Elements.{Contains-append_left, Contains-append_right, Contains-append_cases}
 use mathlib.Core.Logic.{dite}
 use mathlib.Core.Option.{Option as Maybe, some, none, some-ne-none, some-injective}
-use native.Mathlib.Decide.{ℕ_discrete}
+use native.Mathlib.Decide.{ℕ_discrete, dec_le}
 use lib.ListN.{get_elem?}
 use prog.Atomic.{either}
 use Rattle.std.proofs.Math.Nat.{mod-add-mod}
@@ -15,12 +15,13 @@ use Rattle.lb_turn.specs.declared.rule.Role.{Role}
 use Rattle.lb_turn.specs.declared.rule.Role.TheVariants.{Idle, Waits, Turns}
 use Rattle.lb_turn.specs.declared.rule.Known.{Known}
 use Rattle.lb_turn.specs.declared.rule.View.{View}
-use Rattle.lb_turn.specs.Known.{known, nothing, united, IsKnown, Grows, Belongs}
+use Rattle.lb_turn.specs.Known.{known, nothing, united, IsKnown, IsWhole, Grows, Belongs, Divides}
 use Rattle.lb_turn.specs.Rule.{ticketed, HasTicket, IsStill, IsPlaced, IsPlacedAs, starting, spent_view, out, Owns, AreOwned, IsSeated, Turned}
 use Rattle.lb_turn.specs.Steps.{Draws, Looks, Counts, Merges, Records, PassesOn, kept_view, given_view, joined_view}
-use Rattle.lb_turn.proofs.Places.{not_in_none, in_one, is_one, prefix_length, known_nothing, known_whole, known_given, grows_whole, grows_left, grows_right, known_united, known_recorded, known_beside}
+use Rattle.lb_turn.proofs.Places.{not_in_none, in_one, is_one, prefix_length, known_nothing, known_whole, below_log, grows_whole, grows_left, grows_right, known_united, known_recorded, known_beside, prefix_same}
+use Rattle.lb_turn.proofs.Dividing.{known_kept, known_given}
 use Rattle.lb_turn.proofs.Queue.{get_below, rest_length, first_out, placed_more, all_still, placed_beside, placed_nearer, out_kept, out_longer, out_drawn, out_passed}
-use Rattle.lb_turn.proofs.Views.{out_set, shares_set, shares_snoc, out_snoc, out_le, parts_at_most, two_at_most, same_view, set_there, each_set, disjoint_set, owned_set, disjoint_snoc, owned_snoc, disjoint_join, owned_join}
+use Rattle.lb_turn.proofs.Views.{out_set, shares_set, shares_snoc, out_snoc, out_le, parts_at_most, two_at_most, same_view, set_there, each_set, disjoint_set, owned_set, disjoint_split, owned_split, disjoint_join, owned_join}
 
 abbrev ticket_of : Role → ℕ
 ticket_of Idle = 0
@@ -59,6 +60,23 @@ module _ {S N : Type 0} (history : S → List N) (root : List N → ℕ → ℕ)
       (λ c. omega (arith, h.other.below place c, prefix_length u.other.seen log h.other.seen))
       o
 
+  -- who has all parts owns each place of the history, and so has seen it whole
+  whole_of : (s : State (Option S) (View N)) (h : Rule s) (id : ℕ) (v : View N) → get_elem? s.views id ≡ some v → v.parts ≡ 65 → v.other ≡ nothing → IsWhole v.known h.log
+  whole_of s h id v at all alone =
+      let was = h.each id v at in
+      let mine : (place : ℕ) → place < length h.log → Contains v.known.own place = λ place lt.
+      let o = h.owned place lt in
+      dite (ℕ_discrete o.0 id)
+      (λ same. ⊎_elim
+      (λ c. c)
+      (λ c. absurd (not_in_none place (subst (λ k. Contains k.own place) alone c)))
+      (subst (λ u. Owns u place) (same_view s.views id o.0 v o.1 at o.2 same) o.3))
+      (λ apart. absurd (omega (arith, (h.each o.0 o.1 o.2).owner place o.3, two_at_most s.views id o.0 v o.1 apart at o.2, h.whole))) in
+      let short : length h.log ≤ length v.known.seen = dite (dec_le (length h.log) (length v.known.seen))
+      (λ le. le)
+      (λ more. let low = was.known.below (length v.known.seen) (mine (length v.known.seen) (lt_of_not-le more)) in absurd (omega arith)) in
+      (prefix_same v.known.seen h.log was.known.seen short, λ place. (mine place, below_log root h.log v.known was.known place))
+
   pub draws : (id : ℕ) (me : Me (Option S) (View N)) → me.0.role ≡ Idle → 0 < me.0.parts → Allows Rule 1 id me 0 (λ n. (n + 1) % 2 ^ 64) (Draws (step 1 0 1 0 none) me)
   draws id me idle some_part s h homes at fits =
       let v = me.0 in
@@ -81,8 +99,8 @@ module _ {S N : Type 0} (history : S → List N) (root : List N → ℕ → ℕ)
           counted = omega (arith, more, none_yet, h.counted, length-append h.queue (id ∷ []));
           tickets = out_drawn h.served h.queue s.views id v w at idle (found ∙ h.drawn) h.tickets;
           each = each_set (Seated h.served (h.queue ++ id ∷ []) h.log) s.views id w
-              (record { placed = (length h.queue, (at_last h.queue id (length h.queue) refl, found ∙ h.drawn)); known = was.known; other = was.other; number = was.number; live = some_part; part = was.part })
-              (λ j u apart e. let k = h.each j u e in record { placed = placed_more h.served h.queue h.log j id u u.role k.placed; known = k.known; other = k.other; number = k.number; live = k.live; part = k.part });
+              (record { placed = (length h.queue, (at_last h.queue id (length h.queue) refl, found ∙ h.drawn)); known = was.known; other = was.other; number = was.number; live = some_part; part = was.part; owner = was.owner })
+              (λ j u apart e. let k = h.each j u e in record { placed = placed_more h.served h.queue h.log j id u u.role k.placed; known = k.known; other = k.other; number = k.number; live = k.live; part = k.part; owner = k.owner });
           disjoint = disjoint_set s.views id v w at (λ place o. inl o) h.disjoint;
           owned = owned_set s.views id (length h.log) v w at (λ place o. o) h.owned;
           whole = omega (arith, shares_set s.views id v w at, h.whole);
@@ -131,6 +149,7 @@ module _ {S N : Type 0} (history : S → List N) (root : List N → ℕ → ℕ)
                 number = was.number;
                 live = subst (λ r. ticketed r ≤ v.parts) waits was.live;
                 part = was.part;
+                owner = was.owner;
               })
               (λ j u apart e. h.each j u e);
           disjoint = disjoint_set s.views id v w at (λ place o. inl o) h.disjoint;
@@ -147,6 +166,8 @@ module _ {S N : Type 0} (history : S → List N) (root : List N → ℕ → ℕ)
             ap (λ k. record v { role = Turns k; known = known (history x) v.known.own }) same,
             subst (Grows root v.known) (sym home.2) (grows_whole root h.log v.known was.known),
             home.3 ∙ sym (was.number (omega (arith, was.live, one))),
+            was.known.below,
+            λ all alone. subst (IsWhole v.known) (sym home.2) (whole_of s h id v at all alone),
           ),
         )),
       ))
@@ -193,8 +214,8 @@ module _ {S N : Type 0} (history : S → List N) (root : List N → ℕ → ℕ)
           counted = omega (arith, more, one, h.counted, shorter);
           tickets = out_passed h.served h.queue s.views id t v w at turns knows.0.1 (few s h) h.tickets;
           each = each_set (Seated ((h.served + 1) % 2 ^ 64) (drop 1 h.queue) h.log) s.views id w
-              (record { placed = tt; known = was.known; other = was.other; number = was.number; live = omega arith; part = was.part })
-              (λ j u apart e. let k = h.each j u e in record { placed = placed_nearer h.served h.queue h.log id j u u.role apart knows.0.0 k.placed; known = k.known; other = k.other; number = k.number; live = k.live; part = k.part });
+              (record { placed = tt; known = was.known; other = was.other; number = was.number; live = omega arith; part = was.part; owner = was.owner })
+              (λ j u apart e. let k = h.each j u e in record { placed = placed_nearer h.served h.queue h.log id j u u.role apart knows.0.0 k.placed; known = k.known; other = k.other; number = k.number; live = k.live; part = k.part; owner = k.owner });
           disjoint = disjoint_set s.views id v w at (λ place o. inl o) h.disjoint;
           owned = owned_set s.views id (length h.log) v w at (λ place o. o) h.owned;
           whole = omega (arith, shares_set s.views id v w at, h.whole);
@@ -208,37 +229,6 @@ module _ {S N : Type 0} (history : S → List N) (root : List N → ℕ → ℕ)
       one_home [] y e = absurd (omega arith)
       one_home (z ∷ []) y e = refl
       one_home (z ∷ z' ∷ zs) y e = absurd (omega arith)
-
-  pub splits : (id : ℕ) (v : View N) → v.role ≡ Idle → 1 < v.parts → id ≡ 0 → Splits (Turned history root number key) id v (kept_view v) (given_view v)
-  splits id v idle some_parts first s h at =
-      let was = h.each id v at in
-      let w = kept_view v in
-      let g = given_view v in
-      let none : ticketed v.role ≡ 0 = ap ticketed idle in
-      let more : out (set s.views id w) + ticketed v.role ≡ out s.views + ticketed v.role = out_set s.views id v w at in
-      record {
-        ticket = h.ticket;
-        served = h.served;
-        log = h.log;
-        queue = h.queue;
-        words = h.words;
-        served_fits = h.served_fits;
-        drawn = h.drawn;
-        counted = omega (arith, more, h.counted, out_snoc (set s.views id w) g);
-        tickets = out_longer h.served h.queue (set s.views id w) g (out_kept h.served h.queue s.views id v w at (λ t has. has) h.tickets);
-        each = λ j u e. ⊎_elim
-            (each_set (Seated h.served h.queue h.log) s.views id w
-            (record { placed = was.placed; known = was.known; other = was.other; number = λ _. was.number (omega arith); live = omega arith; part = λ later. absurd (omega arith) })
-            (λ j u apart e. h.each j u e) j u)
-            (λ same. subst (Seated h.served h.queue h.log j) same
-            (record { placed = tt; known = known_given root h.log v.known was.known; other = known_nothing root h.log; number = λ _. was.number (omega arith); live = omega arith; part = λ later. omega arith }))
-            (at_snoc (set s.views id w) g u j e);
-        disjoint = disjoint_snoc (set s.views id w) g (λ place o. ⊎_elim (not_in_none place) (not_in_none place) o) (disjoint_set s.views id v w at (λ place o. inl o) h.disjoint);
-        owned = owned_snoc (set s.views id w) (length h.log) g (owned_set s.views id (length h.log) v w at (λ place o. o) h.owned);
-        whole = omega (arith, shares_set s.views id v w at, shares_snoc (set s.views id w) g, h.whole);
-        slots = h.slots;
-        home = λ still. h.home (still_set s.views id v w at idle (λ j u e. still j u (at_longer (set s.views id w) (g ∷ []) j u e)));
-      }
 
   pub joins : (id other : ℕ) (v u : View N) → v.role ≡ Idle → v.other ≡ nothing → 0 < v.parts → id ≡ 0 → u.role ≡ Idle → u.other ≡ nothing
       → Joins (Turned history root number key) id v other u (joined_view v u) spent_view
@@ -263,9 +253,9 @@ module _ {S N : Type 0} (history : S → List N) (root : List N → ℕ → ℕ)
         counted = omega (arith, more, more', none', h.counted);
         tickets = out_kept h.served h.queue ws other u spent_view there (λ t has. absurd (subst (λ r. HasTicket r t) rest has)) (out_kept h.served h.queue s.views id v w at (λ t has. has) h.tickets);
         each = each_set (Seated h.served h.queue h.log) ws other spent_view
-            (record { placed = tt; known = known_nothing root h.log; other = known_nothing root h.log; number = λ p. absurd (omega arith); live = omega arith; part = λ later. omega arith })
+            (record { placed = tt; known = known_nothing root h.log; other = known_nothing root h.log; number = λ p. absurd (omega arith); live = omega arith; part = λ later. omega arith; owner = λ place o. absurd (⊎_elim (not_in_none place) (not_in_none place) o) })
             (λ j x off e. each_set (Seated h.served h.queue h.log) s.views id w
-            (record { placed = was.placed; known = was.known; other = theirs.known; number = λ _. was.number some_part; live = omega (arith, none); part = λ later. absurd (omega arith) })
+            (record { placed = was.placed; known = was.known; other = theirs.known; number = λ _. was.number some_part; live = omega (arith, none); part = λ later. absurd (omega arith); owner = λ place o. omega arith })
             (λ j' x' off' e'. h.each j' x' e') j x e);
         disjoint = disjoint_join s.views id other v u w spent_view at u_there apart (λ place o. ⊎_elim (not_in_none place) (not_in_none place) o) (λ place o. ⊎_elim (λ c. inl (inl c)) (λ c. inr (inl c)) o) h.disjoint;
         owned = owned_join s.views id other v u w spent_view at u_there apart (λ place o. ⊎_elim (not_in_none place) (not_in_none place) o) (length h.log)
@@ -278,14 +268,14 @@ module _ {S N : Type 0} (history : S → List N) (root : List N → ℕ → ℕ)
       }
 
   -- at the end the state is at home
-  pub ends : (id : ℕ) (v : View N) (words : List ℕ) (xs : List (Option S)) → v.role ≡ Idle → v.parts ≡ 65 → Final (Seen (Turned history root number key) id v) words xs
-      → (x : S) × (get_elem? xs 0 ≡ some (Some x)) × Grows root v.known (history x) × (number x ≡ key)
-  ends id v words xs idle all f =
+  pub ends : (id : ℕ) (v : View N) (words : List ℕ) (xs : List (Option S)) → v.role ≡ Idle → v.other ≡ nothing → v.parts ≡ 65 → Final (Seen (Turned history root number key) id v) words xs
+      → (x : S) × (get_elem? xs 0 ≡ some (Some x)) × IsWhole v.known (history x) × (number x ≡ key)
+  ends id v words xs idle alone all f =
       let s = f.0 in let h = f.1.0 in let at = f.1.1 in
       let home = h.home (λ j u e. dite (ℕ_discrete j id)
       (λ same. subst IsStill (sym (ap (λ x. x.role) (same_view s.views id j v u at e same) ∙ idle)) tt)
       (λ apart. still_without u.role (omega (arith, (h.each j u e).live, two_at_most s.views id j v u apart at e, h.whole)))) in
-      (home.0, f.4 0 (Some home.0) (ap (λ hs. get_elem? hs 0) home.1), subst (Grows root v.known) (sym home.2) (grows_whole root h.log v.known (h.each id v at).known), home.3)
+      (home.0, f.4 0 (Some home.0) (ap (λ hs. get_elem? hs 0) home.1), subst (IsWhole v.known) (sym home.2) (whole_of s h id v at all alone), home.3)
 
 module _ {S N : Type 0} (history : S → List N) (root : List N → ℕ → ℕ) (number : S → ℕ) (key : ℕ) (before : (log : List N) (place : ℕ) → root log place ≤ place)
     (stays : (log more : List N) (place : ℕ) → place < length log → root (log ++ more) place ≡ root log place) where
@@ -317,6 +307,7 @@ module _ {S N : Type 0} (history : S → List N) (root : List N → ℕ → ℕ)
                 number = was.number;
                 live = was.live;
                 part = was.part;
+                owner = λ place o. was.owner place (⊎_elim (λ c. Contains-append_cases v.known.own v.other.own place c) (λ c. absurd (not_in_none place c)) o);
               })
               (λ j u apart e. h.each j u e);
           disjoint = disjoint_set s.views id v w at (λ place o. inl (⊎_elim (λ c. Contains-append_cases v.known.own v.other.own place c) (λ c. absurd (not_in_none place c)) o)) h.disjoint;
@@ -330,8 +321,61 @@ module _ {S N : Type 0} (history : S → List N) (root : List N → ℕ → ℕ)
           grows_left root before stays h.log v.known v.other was.known was.other,
           grows_right root before stays h.log v.known v.other was.known was.other,
           omega (arith, parts_at_most s.views id v at, h.whole),
+          (known_united root before stays h.log v.known v.other was.known was.other).below,
         ),
       )
+
+  pub splits : (kept given : List ℕ → List ℕ) (id : ℕ) (v : View N) → v.role ≡ Idle → v.other ≡ nothing → 1 < v.parts → id ≡ 0 → Divides root v.known (kept v.known.own) (given v.known.own)
+      → Splits (Turned history root number key) id v (kept_view kept v) (given_view given v)
+  splits kept given id v idle alone some_parts first divides s h at =
+      let was = h.each id v at in
+      let w = kept_view kept v in
+      let g = given_view given v in
+      let none_other : (place : ℕ) → Contains v.other.own place → ⊥ = λ place c. not_in_none place (subst (λ k. Contains k.own place) alone c) in
+      let more : out (set s.views id w) + ticketed v.role ≡ out s.views + ticketed v.role = out_set s.views id v w at in
+      record {
+        ticket = h.ticket;
+        served = h.served;
+        log = h.log;
+        queue = h.queue;
+        words = h.words;
+        served_fits = h.served_fits;
+        drawn = h.drawn;
+        counted = omega (arith, more, h.counted, out_snoc (set s.views id w) g);
+        tickets = out_longer h.served h.queue (set s.views id w) g (out_kept h.served h.queue s.views id v w at (λ t has. has) h.tickets);
+        each = λ j u e. ⊎_elim
+            (each_set (IsSeated root key h.served h.queue h.log) s.views id w
+            (record {
+              placed = subst (IsPlacedAs h.served h.queue h.log id w) (sym idle) tt;
+              known = known_kept root stays h.log v.known (kept v.known.own) (given v.known.own) was.known divides;
+              other = was.other;
+              number = λ _. was.number (omega arith);
+              live = subst (λ r. ticketed r ≤ v.parts - 1) (sym idle) (omega arith);
+              part = λ later. absurd (omega arith);
+              owner = λ place o. omega arith;
+            })
+            (λ j u apart e. h.each j u e) j u)
+            (λ same. subst (IsSeated root key h.served h.queue h.log j) same
+            (record {
+              placed = tt;
+              known = known_given root stays h.log v.known (kept v.known.own) (given v.known.own) was.known divides;
+              other = known_nothing root h.log;
+              number = λ _. was.number (omega arith);
+              live = omega arith;
+              part = λ later. omega arith;
+              owner = λ place o. omega arith;
+            }))
+            (at_snoc (set s.views id w) g u j e);
+        disjoint = disjoint_split s.views id v w g at
+            (λ place o. ⊎_elim (λ c. inl (divides.from_kept place c)) (λ c. inr c) o)
+            (λ place o. ⊎_elim (λ c. inl (divides.from_given place c)) (λ c. absurd (not_in_none place c)) o)
+            (λ place mine theirs. ⊎_elim (λ a. ⊎_elim (λ b. divides.apart place a b) (not_in_none place) theirs) (none_other place) mine)
+            h.disjoint;
+        owned = owned_split s.views id v w g at (length h.log) (λ place o. ⊎_elim (λ c. ⊎_elim (λ a. inl (inl a)) (λ b. inr (inl b)) (divides.each place c)) (λ c. inl (inr c)) o) h.owned;
+        whole = omega (arith, shares_set s.views id v w at, shares_snoc (set s.views id w) g, h.whole);
+        slots = h.slots;
+        home = λ still. h.home (still_set history root number key s.views id v w at idle (λ j u e. still j u (at_longer (set s.views id w) (g ∷ []) j u e)));
+      }
 
   abbrev said_or : S → Maybe (Option S) → S
   said_or d (some (Some z)) = z
@@ -352,6 +396,7 @@ module _ {S N : Type 0} (history : S → List N) (root : List N → ℕ → ℕ)
       let v = me.0 in
       let log = v.known.seen in
       let n = length log in
+      let one : ticketed v.role ≡ 1 = ap ticketed turns in
       let was = h.each id v at in
       let knows : IsPlaced h.served h.queue id t 0 × (log ≡ h.log) = subst (IsPlacedAs h.served h.queue h.log id v) turns was.placed in
       let found : slice_index s.words 2 ≡ old = ap (λ ws. slice_index ws 2) h.words ∙ (ap length (sym knows.1) ∙ long) in
@@ -385,6 +430,7 @@ module _ {S N : Type 0} (history : S → List N) (root : List N → ℕ → ℕ)
                 number = was.number;
                 live = was.live;
                 part = was.part;
+                owner = λ place o. omega (arith, was.live, one);
               })
               (λ j u apart e'. let k = h.each j u e' in record {
                 placed = placed_beside h.served h.queue h.log (history x) id j u u.role apart knows.0.0 k.placed;
@@ -393,6 +439,7 @@ module _ {S N : Type 0} (history : S → List N) (root : List N → ℕ → ℕ)
                 number = k.number;
                 live = k.live;
                 part = k.part;
+                owner = k.owner;
               });
           disjoint = disjoint_set s.views id v w at (λ place o. ⊎_elim
               (λ c. ⊎_elim
@@ -445,7 +492,7 @@ module _ {S N : Type 0} (history : S → List N) (root : List N → ℕ → ℕ)
 
       one : (seat : ℕ) (v : View N) → get_elem? (starting key ∷ []) seat ≡ some v → IsSeated root key 0 [] [] seat v
       one seat v e = subst (IsSeated root key 0 [] [] seat) (first seat v e).1
-          (record { placed = tt; known = known_nothing root []; other = known_nothing root []; number = λ _. refl; live = omega arith; part = λ later. let chief = (first seat v e).0 in absurd (omega arith) })
+          (record { placed = tt; known = known_nothing root []; other = known_nothing root []; number = λ _. refl; live = omega arith; part = λ later. let chief = (first seat v e).0 in absurd (omega arith); owner = λ place o. omega arith })
 
 module _ {S : Type 0} where
   abbrev state_or : S → Option S → S

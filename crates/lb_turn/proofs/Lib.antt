@@ -1,7 +1,7 @@
+pub mod Dividing
 mod Kept
 mod Live
-mod Places
+pub mod Places
 mod Queue
-pub mod Tapes
 pub mod Uses
 mod Views

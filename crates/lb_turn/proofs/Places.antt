@@ -26,6 +26,11 @@ module _ {N : Type 0} where
   pub prefix_longer : (xs ys : List N) (e : N) → IsPrefix xs ys → IsPrefix xs (ys ++ e ∷ [])
   prefix_longer xs ys e p = (p.0 ++ e ∷ [], sym (append_assoc xs p.0 (e ∷ [])) ∙ ap (λ l. l ++ e ∷ []) p.1)
 
+  -- a beginning that is as long is the whole
+  pub prefix_same : (xs ys : List N) → IsPrefix xs ys → length ys ≤ length xs → ys ≡ xs
+  prefix_same xs ys ([], e) le = sym e ∙ append-nil xs
+  prefix_same xs ys (z ∷ zs, e) le = absurd (omega (arith, ap length e, length-append xs (z ∷ zs)))
+
   -- of two beginnings of one list the shorter begins the longer
   prefix_between : (xs ys r s : List N) → xs ++ r ≡ ys ++ s → length xs ≤ length ys → IsPrefix xs ys
   prefix_between [] ys r s e le = (ys, refl)
@@ -56,20 +61,12 @@ module _ {N : Type 0} (root : List N → ℕ → ℕ) where
     own_by_root = λ place lt. ((λ c. absurd (not_in_none place c)), (λ c. absurd (not_in_none (root log place) c)));
   }
 
-  below_log : (log : List N) (k : Known N) → IsKnown root log k → (place : ℕ) → Contains k.own place → place < length log
+  pub below_log : (log : List N) (k : Known N) → IsKnown root log k → (place : ℕ) → Contains k.own place → place < length log
   below_log log k h place c = omega (arith, h.below place c, prefix_length k.seen log h.seen)
 
   -- once the whole history is seen
   pub known_whole : (log : List N) (k : Known N) → IsKnown root log k → IsKnown root log (known log k.own)
   known_whole log k h = record { seen = ([], append-nil log); below = below_log log k h; own_by_root = h.own_by_root }
-
-  -- what a new pass knows
-  pub known_given : (log : List N) (k : Known N) → IsKnown root log k → IsKnown root log (known k.seen [])
-  known_given log k h = record {
-    seen = h.seen;
-    below = λ place c. absurd (not_in_none place c);
-    own_by_root = λ place lt. ((λ c. absurd (not_in_none place c)), (λ c. absurd (not_in_none (root log place) c)));
-  }
 
   -- a place that was added has no own root
   added_apart : (log : List N) (k : Known N) → IsKnown root log k → (place : ℕ) → length k.seen ≤ place → place < length log → Contains k.own (root log place) → ⊥

@@ -4,7 +4,7 @@ use mathlib.Core.Logic.{dite}
 use mathlib.Core.Option.{some, some-ne-none, some-injective}
 use native.Mathlib.Decide.{ℕ_discrete}
 use lib.ListN.{get_elem?}
-use Rattle.atomic_table.proofs.Lists.{at_set, set_here, set_else, at_longer, at_snoc}
+use Rattle.atomic_table.proofs.Lists.{at_set, set_here, set_else, at_longer, at_last}
 use Rattle.lb_turn.specs.declared.rule.View.{View}
 use Rattle.lb_turn.specs.Rule.{ticketed, shares, out, Owns, AreDisjoint, AreOwned}
 
@@ -94,17 +94,43 @@ module _ {N : Type 0} where
       (λ same. (id, w, set_there vs id v w at, keeps place (subst (λ u. Owns u place) (same_view vs id o.0 v o.1 at o.2 same) o.3)))
       (λ apart. (o.0, o.1, set_else vs id o.0 w apart ∙ o.2, o.3))
 
-  pub disjoint_snoc : (vs : List (View N)) (g : View N) → ((place : ℕ) → Owns g place → ⊥) → AreDisjoint vs → AreDisjoint (vs ++ g ∷ [])
-  disjoint_snoc vs g none apart i j place x y ei ej ox oy = ⊎_elim
-      (λ a. ⊎_elim
-      (λ b. apart i j place x y a b ox oy)
-      (λ b. absurd (none place (subst (λ u. Owns u place) (sym b) oy)))
-      (at_snoc vs g y j ej))
-      (λ a. absurd (none place (subst (λ u. Owns u place) (sym a) ox)))
-      (at_snoc vs g x i ei)
+  at_end : (vs : List (View N)) (g u : View N) (j : ℕ) → get_elem? (vs ++ g ∷ []) j ≡ some u → (get_elem? vs j ≡ some u) ⊎ ((j ≡ length vs) × (g ≡ u))
+  at_end [] g u zero e = inr (refl, some-injective g u e)
+  at_end [] g u (suc k) e = absurd (some-ne-none u (sym e))
+  at_end (x ∷ xs) g u zero e = inl e
+  at_end (x ∷ xs) g u (suc k) e = ⊎_elim (λ t. inl t) (λ t. let last = t.0 in inr (omega arith, t.1)) (at_end xs g u k e)
 
-  pub owned_snoc : (vs : List (View N)) (count : ℕ) (g : View N) → AreOwned vs count → AreOwned (vs ++ g ∷ []) count
-  owned_snoc vs count g all place lt = let o = all place lt in (o.0, o.1, at_longer vs (g ∷ []) o.0 o.1 o.2, o.3)
+  -- a seat shares its places with a new one
+  module _ (vs : List (View N)) (id : ℕ) (v w g : View N) (at : get_elem? vs id ≡ some v) where
+    crossed : ((place : ℕ) → Owns g place → Owns v place) → ((place : ℕ) → Owns w place → Owns g place → ⊥) → AreDisjoint vs
+        → (place k : ℕ) (z : View N) → get_elem? (set vs id w) k ≡ some z → Owns z place → Owns g place → ⊥
+    crossed right off apart place k z e oz og = ⊎_elim
+        (λ (m : (k ≡ id) × (w ≡ z)). off place (subst (λ u. Owns u place) (sym m.1) oz) og)
+        (λ (m : (k ≢ id) × (get_elem? vs k ≡ some z)). m.0 (apart k id place z v m.1 at oz (right place og)))
+        (at_set vs id k w z e)
+
+    pub disjoint_split : ((place : ℕ) → Owns w place → Owns v place) → ((place : ℕ) → Owns g place → Owns v place) → ((place : ℕ) → Owns w place → Owns g place → ⊥)
+        → AreDisjoint vs → AreDisjoint (set vs id w ++ g ∷ [])
+    disjoint_split left right off apart i j place x y ei ej ox oy = ⊎_elim
+        (λ (a : get_elem? (set vs id w) i ≡ some x). ⊎_elim
+        (λ (b : get_elem? (set vs id w) j ≡ some y). disjoint_set vs id v w at (λ p o. inl (left p o)) apart i j place x y a b ox oy)
+        (λ (b : (j ≡ length (set vs id w)) × (g ≡ y)). absurd (crossed right off apart place i x a ox (subst (λ u. Owns u place) (sym b.1) oy)))
+        (at_end (set vs id w) g y j ej))
+        (λ (a : (i ≡ length (set vs id w)) × (g ≡ x)). ⊎_elim
+        (λ (b : get_elem? (set vs id w) j ≡ some y). absurd (crossed right off apart place j y b oy (subst (λ u. Owns u place) (sym a.1) ox)))
+        (λ (b : (j ≡ length (set vs id w)) × (g ≡ y)). a.0 ∙ sym b.0)
+        (at_end (set vs id w) g y j ej))
+        (at_end (set vs id w) g x i ei)
+
+    pub owned_split : (count : ℕ) → ((place : ℕ) → Owns v place → Owns w place ⊎ Owns g place) → AreOwned vs count → AreOwned (set vs id w ++ g ∷ []) count
+    owned_split count share all place lt =
+        let o = all place lt in
+        dite (ℕ_discrete o.0 id)
+        (λ same. ⊎_elim
+        (λ c. (id, w, at_longer (set vs id w) (g ∷ []) id w (set_there vs id v w at), c))
+        (λ c. (length (set vs id w), g, at_last (set vs id w) g (length (set vs id w)) refl, c))
+        (share place (subst (λ u. Owns u place) (same_view vs id o.0 v o.1 at o.2 same) o.3)))
+        (λ apart. (o.0, o.1, at_longer (set vs id w) (g ∷ []) o.0 o.1 (set_else vs id o.0 w apart ∙ o.2), o.3))
 
   -- one seat takes another's places, and the other has none
   module _ (vs : List (View N)) (id other : ℕ) (v u w spent : View N) (at : get_elem? vs id ≡ some v) (there : get_elem? vs other ≡ some u) (off : other ≢ id)

@@ -1,8 +1,22 @@
--- What was seen of a history, and which of its places are one's own.
-use Rattle.std.specs.Prelude.{◌≡◌, ◌⊎◌, ◌↔◌, ℕ, ◌<◌, ◌≤◌, List, [], ◌++◌, length, nat_lt, if◌then◌else◌}
-use Rattle.std.specs.List.{Contains}
+-- What a pass has seen of a history, which of its places are the pass's own, and how a split divides those. Contracts of lb_turn are stated in these words.
+use Rattle.std.specs.Prelude.{◌≡◌, ◌⊎◌, ◌↔◌, ℕ, ◌<◌, ◌≤◌, List, [], ◌∷◌, ◌++◌, length, max, nat_lt, if◌then◌else◌}
+use Rattle.std.specs.List.{Contains, filter}
 use mathlib.Core.List.{IsPrefix}
 use Rattle.lb_turn.specs.declared.rule.Known.{Known}
+
+-- the greatest of these places
+abbrev pub greatest : List ℕ → ℕ
+greatest [] = 0
+greatest (place ∷ places) = max place (greatest places)
+
+-- the one of these places that comes last in a history, if there is one
+abbrev pub last_of : List ℕ → List ℕ
+last_of [] = []
+last_of (place ∷ places) = greatest (place ∷ places) ∷ []
+
+-- the places before the last one
+abbrev pub before_last : List ℕ → List ℕ
+before_last places = filter (λ place. nat_lt place (greatest places)) places
 
 module _ {N : Type 0} where
   abbrev pub known : List N → List ℕ → Known N
@@ -20,6 +34,14 @@ module _ {N : Type 0} where
   abbrev pub united : Known N → Known N → Known N
   united k l = known (longer k.seen l.seen) (k.own ++ l.own)
 
+  -- the own places lie below the end of the seen list
+  abbrev pub IsWithin : Known N → Type 0
+  IsWithin k = (place : ℕ) → Contains k.own place → place < length k.seen
+
+  -- The history is what was seen, and the own places are all its places.
+  abbrev pub IsWhole : Known N → List N → Type 0
+  IsWhole k log = (log ≡ k.seen) × ((place : ℕ) → place < length log ↔ Contains k.own place)
+
 module _ {N : Type 0} (root : List N → ℕ → ℕ) where
   -- It is true of the history: the seen list is a beginning of it, the own places lie in that list, and a place of the history is an own one exactly where its root is.
   pub record IsKnown (log : List N) (k : Known N) : Type 0 where
@@ -35,3 +57,15 @@ module _ {N : Type 0} (root : List N → ℕ → ℕ) where
   -- The place belongs here: its root is the place itself or an own place.
   abbrev pub Belongs : List ℕ → List N → ℕ → Type 0
   Belongs own log place = (root log place ≡ place) ⊎ Contains own (root log place)
+
+  -- the last own place, if there is one, is its own root
+  abbrev pub IsLastRoot : Known N → Type 0
+  IsLastRoot k = (place : ℕ) → Contains (last_of k.own) place → root k.seen place ≡ place
+
+  -- The own places are divided into those that are kept and those that are given away: each is in exactly one of the two lists, which have no others, and is given away exactly where its root is.
+  pub record Divides (k : Known N) (kept given : List ℕ) : Type 0 where
+    pub each : (place : ℕ) → Contains k.own place → Contains kept place ⊎ Contains given place
+    pub from_kept : (place : ℕ) → Contains kept place → Contains k.own place
+    pub from_given : (place : ℕ) → Contains given place → Contains k.own place
+    pub apart : (place : ℕ) → Contains kept place → ¬ Contains given place
+    pub rooted : (place : ℕ) → Contains k.own place → Contains given place ↔ Contains given (root k.seen place)

@@ -5,4 +5,3 @@ pub mod Lending
 pub mod Passes
 pub mod Rule
 pub mod Steps
-pub mod Tape

@@ -36,6 +36,10 @@ module _ {N : Type 0} where
   abbrev pub passes_of : Chief N → ℕ
   passes_of c = c.passes
 
+  -- every part is with it: no other pass is live
+  abbrev pub HasAllParts : Pass N → Type 0
+  HasAllParts p = (view_by p).parts ≡ 65
+
   -- it is the same seat at the same turn
   abbrev pub IsSameSeat : Pass N → Pass N → Type 0
   IsSameSeat p q = (q.badge.table_id ≡ p.badge.table_id) × (q.badge.id ≡ p.badge.id) × ((view_by q).parts ≡ (view_by p).parts)

@@ -85,6 +85,8 @@ module _ {N : Type 0} (root : List N → ℕ → ℕ) (key : ℕ) where
     pub number : 0 < v.parts → v.number ≡ key
     pub live : ticketed v.role ≤ v.parts
     pub part : HasPart seat v
+    -- a view without parts owns no place
+    pub owner : (place : ℕ) → Owns v place → 0 < v.parts
 
 module _ {S N : Type 0} (history : S → List N) (root : List N → ℕ → ℕ) (number : S → ℕ) where
   -- the state is in its slot, with this history and this number

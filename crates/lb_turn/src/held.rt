@@ -3,8 +3,8 @@ ghost use Rattle.std.specs.Prelude.{◌≡◌, ◌+◌, ◌^◌, ◌<◌, [], �
 ghost use types.Logic.{sem};
 ghost use Rattle.lb_turn.specs.Lending.{lends_state};
 ghost use Rattle.lb_turn.specs.Holding.{IsHolding, AddsOne, AddsOwn, IsLentTo, IsSeatOf, IsLentOn, IsSeatOn, IsGivenBack, turn_of, state_in, history_in, number_in, seen_in, own_in};
-ghost use Rattle.lb_turn.specs.Known.{Grows};
-ghost use Rattle.lb_turn.specs.Passes.{IsIdle, fixed_number, known_by, own_by};
+ghost use Rattle.lb_turn.specs.Known.{IsWithin, IsWhole, Grows};
+ghost use Rattle.lb_turn.specs.Passes.{IsIdle, HasAllParts, fixed_number, known_by, own_by};
 
 use crate::pass::Pass;
 use crate::standing::Standing;
@@ -24,7 +24,8 @@ pub struct Held<'a, S: Standing> {
 }
 
 impl<S: Standing> Turn<S> {
-    /// Waits for the pass's turn, and lends it the state. The pass has then seen the state's whole history.
+    /// Waits for the pass's turn, and lends it the state. The pass has then seen the state's whole history. Where no other
+    /// pass is live, it had seen that history before, and each place of it is its own.
     ///
     /// The pass has to be idle and of this turn. The call may wait forever, and takes no memory.
     pub fn hold<'a, R: Wait>(&'a self, rt: &R, pass: &'a mut Pass<S::Entry>) -> Held<'a, S>
@@ -38,6 +39,8 @@ impl<S: Standing> Turn<S> {
         ensures number { number_in S.number result ≡ fixed_number S.number self.entry.now }
         ensures grows { Grows S.root (known_by pass.old) (seen_in result) }
         ensures own { own_in result ≡ own_by pass.old }
+        ensures within { IsWithin (known_by pass.old) }
+        ensures whole { HasAllParts pass.old → IsWhole (known_by pass.old) (seen_in result) }
     {
         let badge = mem::replace(&mut pass.badge, Badge::blank());
         let mut seat = badge.into_seat::<Option<S>>();

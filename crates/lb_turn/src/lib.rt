@@ -13,8 +13,6 @@ mod rule;
 mod seats;
 mod standing;
 mod steps;
-#[cfg(test)]
-mod tests;
 mod turn;
 
 pub use chief::{Chief, SplitFault};

@@ -113,15 +113,50 @@ impl<S: Standing> Play<Option<S>, View<S::Entry>> for PassOn<S> {
     ghost then = { PassesOn };
 }
 
-/// A new seat gets one part.
-pub struct Cut;
+/// How a split divides a seat's own places.
+pub trait Handing {
+    ghost use Rattle.std.specs.Prelude.{ℕ, List};
 
-impl<N> Split<View<N>> for Cut {
+    // The own places that the seat keeps.
+    ghost kept: { List ℕ → List ℕ };
+
+    // The own places that the new seat is given.
+    ghost given: { List ℕ → List ℕ };
+}
+
+/// The new seat is given no place.
+pub struct HandsNone;
+
+impl Handing for HandsNone {
+    ghost use Rattle.std.specs.Prelude.{[]};
+
+    ghost kept = { λ own. own };
+
+    ghost given = { λ own. [] };
+}
+
+/// The new seat is given the last own place.
+pub struct HandsLast;
+
+impl Handing for HandsLast {
+    ghost use Rattle.lb_turn.specs.Known.{last_of, before_last};
+
+    ghost kept = { before_last };
+
+    ghost given = { last_of };
+}
+
+/// A new seat gets one part, and the places that are handed over.
+pub struct Cut<H> {
+    of: PhantomData<H>,
+}
+
+impl<N, H: Handing> Split<View<N>> for Cut<H> {
     ghost use Rattle.lb_turn.specs.Steps.{kept_view, given_view};
 
-    ghost left = { kept_view };
+    ghost left = { kept_view H.kept };
 
-    ghost right = { given_view };
+    ghost right = { given_view H.given };
 }
 
 /// A seat takes in the parts and the list of another, which is spent.

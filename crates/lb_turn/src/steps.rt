@@ -3,10 +3,10 @@
 ghost use Rattle.std.specs.Prelude.{◌≡◌, ◌+◌, ◌^◌, ◌<◌, ◌≤◌, [], ◌∷◌, ◌++◌, length, IsSome};
 ghost use Rattle.lb_turn.specs.declared.rule.Role.TheVariants.{Idle};
 ghost use Rattle.lb_turn.specs.Holding.{HasTurn, history_of, number_of};
-ghost use Rattle.lb_turn.specs.Known.{known, nothing, united, Grows, Belongs};
+ghost use Rattle.lb_turn.specs.Known.{known, nothing, united, IsWithin, IsWhole, Grows, Belongs, Divides};
 ghost use Rattle.lb_turn.specs.Steps.{kept_view, given_view};
 
-use crate::rule::{Count, Cut, Draw, Glue, Look, Merge, PassOn, Record, View};
+use crate::rule::{Count, Cut, Draw, Glue, Handing, Look, Merge, PassOn, Record, View};
 use crate::standing::Standing;
 use crate::turn::Turn;
 use atomic_table::Seat;
@@ -44,6 +44,8 @@ impl<S: Standing> Turn<S> {
         ensures count { result.1 ≡ length seat.new.me.0.known.seen }
         ensures grows { Grows S.root seat.old.me.0.known seat.new.me.0.known.seen }
         ensures own { seat.new.me.0.known.own ≡ seat.old.me.0.known.own }
+        ensures within { IsWithin seat.old.me.0.known }
+        ensures whole { seat.old.me.0.parts ≡ 65 → IsWhole seat.old.me.0.known seat.new.me.0.known.seen }
         ensures kept { (seat.new.me.0.number ≡ seat.old.me.0.number) × (seat.new.me.0.parts ≡ seat.old.me.0.parts) }
     {
         let ticket = self.table.shared.fetch_add::<Draw<S>>(seat, NEXT, 1);
@@ -96,14 +98,18 @@ impl<S: Standing> Turn<S> {
         self.table.shared.fetch_add::<PassOn<S>>(seat, SERVED, 1);
     }
 
-    /// A new seat with one part, which has seen what this one has.
-    pub(crate) fn split_seat(&self, seat: &mut TurnSeat<S, S::Entry>) -> TurnSeat<S, S::Entry>
+    /// A new seat with one part, which has seen what this one has, and is given the own places that are handed over.
+    pub(crate) fn split_seat<H: Handing>(
+        &self,
+        seat: &mut TurnSeat<S, S::Entry>,
+    ) -> TurnSeat<S, S::Entry>
         requires same { seat.old.table_id ≡ self.now.table.shared.table_id }
-        requires idle { (seat.old.me.0.role ≡ Idle) × (1 < seat.old.me.0.parts) × (seat.old.id ≡ 0) }
-        ensures same { (seat.new.table_id ≡ seat.old.table_id) × (seat.new.id ≡ seat.old.id) × (seat.new.me ≡ (kept_view seat.old.me.0, seat.old.me.1)) }
-        ensures given { (result.table_id ≡ seat.old.table_id) × (result.me ≡ (given_view seat.old.me.0, [])) }
+        requires idle { (seat.old.me.0.role ≡ Idle) × (seat.old.me.0.other ≡ nothing) × (1 < seat.old.me.0.parts) × (seat.old.id ≡ 0) }
+        requires divided { Divides S.root seat.old.me.0.known (H.kept seat.old.me.0.known.own) (H.given seat.old.me.0.known.own) }
+        ensures same { (seat.new.table_id ≡ seat.old.table_id) × (seat.new.id ≡ seat.old.id) × (seat.new.me ≡ (kept_view H.kept seat.old.me.0, seat.old.me.1)) }
+        ensures given { (result.table_id ≡ seat.old.table_id) × (result.me ≡ (given_view H.given seat.old.me.0, [])) }
     {
-        self.table.shared.split_seat::<Cut>(seat)
+        self.table.shared.split_seat::<Cut<H>>(seat)
     }
 
     /// Takes in what another seat knows, and its parts.
@@ -115,8 +121,25 @@ impl<S: Standing> Turn<S> {
         ensures joined { seat.new.me ≡ (record seat.old.me.0 { known = united seat.old.me.0.known other.me.0.known; parts = seat.old.me.0.parts + other.me.0.parts }, seat.old.me.1) }
         ensures grows { Grows S.root seat.old.me.0.known seat.new.me.0.known.seen × Grows S.root other.me.0.known seat.new.me.0.known.seen }
         ensures parts { seat.new.me.0.parts ≤ 65 }
+        ensures within { IsWithin seat.new.me.0.known }
     {
         self.table.shared.join_seat::<Glue>(seat, other);
         self.table.shared.load::<Merge<S>>(seat, COUNT);
+    }
+
+    /// Takes the table apart, and answers what was in its slot. The seat has all parts, so no other can have a ticket.
+    pub(crate) fn take_apart(self, seat: TurnSeat<S, S::Entry>) -> Option<S>
+        requires same { seat.table_id ≡ self.table.shared.table_id }
+        requires idle { (seat.me.0.role ≡ Idle) × (seat.me.0.other ≡ nothing) × (seat.me.1 ≡ []) }
+        requires all { seat.me.0.parts ≡ 65 }
+        ensures there { IsSome result }
+        ensures whole { IsWhole seat.me.0.known (history_of S.history result) }
+        ensures number { number_of S.number result ≡ S.number self.table.shared.key.value }
+    {
+        let Turn { table } = self;
+        let mut closed = table.close_with(seat);
+        let state = closed.take(0);
+        closed.free();
+        state
     }
 }
