@@ -1,3 +1,4 @@
 pub mod Compare
 pub mod Days
 pub mod Names
+pub mod Truths

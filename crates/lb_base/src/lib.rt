@@ -5,14 +5,16 @@ mod compare;
 mod day;
 mod key;
 mod list;
+mod rule;
 mod text;
 mod truth;
 mod value;
 
-pub use compare::{equal, less, order};
+pub use compare::{equal, less, order, values_stand_in_one_order};
 pub use day::{civil, date_of};
 pub use key::{Key, Ty};
 pub use list::Listing;
+pub use rule::Rule;
 pub use text::{Name, NoMemory, Str};
 pub use truth::Truth;
 pub use value::{Names, Parts, Row, RowList, Value};
