@@ -1,5 +1,6 @@
 // How values compare: in conditions, where a null makes the answer unknown, and in the one order in which they are sorted.
 ghost use Rattle.std.specs.Prelude.{◌≡◌};
+ghost use Rattle.lb_base.specs.Conditions.{is_null};
 ghost use Rattle.lb_base.specs.Compare.{equal_of, less_of, order_of, rank_of, truth_of, OrderIsSortable, OrderIsTotal};
 
 use crate::{Truth, Value};
@@ -72,3 +73,15 @@ pub fn values_stand_in_one_order()
     ensures total { OrderIsTotal }
     ensures sortable { OrderIsSortable }
 {}
+
+impl Value {
+    /// IS NULL.
+    pub fn is_null(&self) -> bool
+        ensures { result ≡ is_null self.now }
+    {
+        match self {
+            Value::Null => true,
+            _ => false,
+        }
+    }
+}
