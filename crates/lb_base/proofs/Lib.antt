@@ -1,2 +1,3 @@
+pub mod TotalOrder
 pub mod Upper
 pub mod Written

@@ -1,7 +1,11 @@
--- Days, written yyyy-mm-dd.
-use Rattle.std.specs.Prelude.{ℕ, ◌+◌, ◌*◌, ◌-◌, Bool, ◌&&◌, ◌==◌, List, length, slice_index, nat_le, Option, Some, None, if◌then◌else◌, ℤ, pos}
+-- Days: their range as numbers, their form yyyy-mm-dd, and their parts.
+use Rattle.std.specs.Prelude.{ℕ, ◌+◌, ◌*◌, ◌-◌, Bool, ◌&&◌, ◌==◌, List, length, slice_index, nat_le, Option, Some, None, if◌then◌else◌, ℤ, pos, negsuc, ◌≤ℤ◌}
 use Rattle.std.specs.Char.{is_ascii_digit}
 use Rattle.jiff_core.specs.Calendar.{days_in_month, days_from_civil}
+
+-- a day in days since 1970-01-01, from 0001-01-01, day -719162, to 9999-12-31
+abbrev pub IsDay : ℤ → Type 0
+IsDay day = (negsuc 719_161 ≤ℤ day) × (day ≤ℤ pos 2_932_896)
 
 -- four digits, `-`, two digits, `-`, two digits
 abbrev pub is_written_day : List ℕ → Bool

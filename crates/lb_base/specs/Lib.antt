@@ -1,3 +1,9 @@
+pub mod Arithmetic
 pub mod Compare
+pub mod Conditions
+pub mod DateParts
 pub mod Days
+pub mod Evaluated
 pub mod Names
+pub mod Texts
+pub mod Truths

@@ -1,8 +1,8 @@
 // Days as texts, as numbers and as parts.
-ghost use Rattle.std.specs.Prelude.{◌≡◌, ◌<◌, ◌+◌, ◌*◌, ◌-◌, pos, ◌-ℤ◌, unsigned_abs, Some, None, if◌then◌else◌};
+ghost use Rattle.std.specs.Prelude.{◌≡◌, ◌<◌, ◌+◌, ◌*◌, ◌-◌, pos, unsigned_abs, Some, None, if◌then◌else◌};
 ghost use Rattle.std.specs.Char.{IsAsciiDigit};
-ghost use Rattle.jiff_core.specs.Calendar.{days_from_civil, IsBetween, IsDate};
-ghost use Rattle.lb_base.specs.Days.{day_of, is_written_day, is_true_day};
+ghost use Rattle.jiff_core.specs.Calendar.{days_from_civil, IsDate};
+ghost use Rattle.lb_base.specs.Days.{day_of, is_written_day, is_true_day, IsDay};
 
 use jiff_core::civil::Date;
 
@@ -68,7 +68,7 @@ fn number_of(year: u16, month: u16, day: u16) -> Option<i32>
 
 /// Year, month and day of a day number, in days since 1970-01-01.
 pub fn civil(day: i32) -> (i64, i64, i64)
-    requires { IsBetween (pos 0 -ℤ pos 719162) (pos 2932896) day }
+    requires { IsDay day }
     ensures number { days_from_civil result.0 (unsigned_abs result.1) (unsigned_abs result.2) ≡ day }
     ensures calendar { IsDate result.0 result.1 result.2 }
 {

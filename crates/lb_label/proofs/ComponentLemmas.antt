@@ -9,8 +9,8 @@ use Rattle.std.specs.Int.{bit_at}
 use Rattle.std.specs.List.{list_any, position_or_len, position_from}
 use Rattle.std.specs.Str.{bytes_eq}
 use Rattle.lb_label.specs.declared.component.Element.{Element}
-use Rattle.lb_label.specs.declared.rule.Kind.{Kind}
-use Rattle.lb_label.specs.declared.rule.Kind.TheVariants.{Set, Array, Tree}
+use Rattle.lb_label.specs.declared.kind.ComponentKind.{ComponentKind}
+use Rattle.lb_label.specs.declared.kind.ComponentKind.TheVariants.{Set, Array, Tree}
 use Rattle.lb_label.specs.Component.{Definition, IsComponent, IsParent, IsPath, Descends, and_above, ancestors, ancestors_within, descends, is_element_text, limit, number_of, parent_of, rank}
 use Rattle.lb_label.specs.Kept.{IsKept, definition_of, line_in, parent_in, rank_in, text_of}
 use Rattle.lb_label.proofs.Bits.{same_true, true_same, false_apart, bit_of_one, shifted_one}
@@ -29,7 +29,7 @@ pub record Falls (parents : List (Option ℕ)) : Type 0 where
 none_differs : {C : Type 0} (p : ℕ) → None ≡ Some p → C
 none_differs p e = absurd cc
 
-is_earlier : (kind : Kind) (e : ℕ) (parent : Option ℕ) (p : ℕ) → IsParent kind e parent → parent ≡ Some p → p < e
+is_earlier : (kind : ComponentKind) (e : ℕ) (parent : Option ℕ) (p : ℕ) → IsParent kind e parent → parent ≡ Some p → p < e
 is_earlier Set e parent p is named = none_differs p (sym is ∙ named)
 is_earlier Array e parent p is named = none_differs p (sym is ∙ named)
 is_earlier Tree zero parent p is named = none_differs p (sym is ∙ named)
@@ -203,7 +203,7 @@ grown_valid c text parent valid room good fresh under = record {
       (place_in_grown c.elements text e h);
 }
 
-pub parent_fits : (kind : Kind) (n : ℕ) (number : Option ℕ) (given : Bool) → ((given ≡ true → (kind ≡ Tree) × (0 < n)) × ((kind ≡ Tree) × (0 < n) → given ≡ true))
+pub parent_fits : (kind : ComponentKind) (n : ℕ) (number : Option ℕ) (given : Bool) → ((given ≡ true → (kind ≡ Tree) × (0 < n)) × ((kind ≡ Tree) × (0 < n) → given ≡ true))
     → is_some number ≡ given → IfSome number (λ p. p < n) → IsParent kind n number
 parent_fits Set n None given iff is below = refl
 parent_fits Array n None given iff is below = refl
@@ -245,7 +245,7 @@ above_new c text parent valid under =
           ap (λ xs. p ∷ xs) (above_kept c.parents (parent ∷ []) (falls_in c valid) (length c.parents) p below')
     ] refl
 
-definition_grows : (kind : Kind) (items : List Element) (order : List ℕ) (el : Element)
+definition_grows : (kind : ComponentKind) (items : List Element) (order : List ℕ) (el : Element)
     → grown (definition_of kind items order) (text_of el) el.parent ≡ definition_of kind (items ++ el ∷ []) (order ++ length items ∷ [])
 unfolding grown
 definition_grows kind items order el = rw (map-append text_of items (el ∷ []), map-append parent_in items (el ∷ []), length-map items text_of)
@@ -258,7 +258,7 @@ map_in_grown f items el e within =
 map_last : (f : Element → ℕ) (items : List Element) (el : Element) (e : ℕ) → e ≡ length items → get_or (map f (items ++ el ∷ [])) e 0 ≡ f el
 map_last f items el e last = rw (map-append f items (el ∷ [])) (get_or_at (map f items) (f el) [] 0 e (length-map items f ∙ sym last))
 
-pub kept_with : (kind : Kind) (items : List Element) (order : List ℕ) (el : Element) → IsKept kind items order → length items < limit kind → is_element_text (text_of el) ≡ true
+pub kept_with : (kind : ComponentKind) (items : List Element) (order : List ℕ) (el : Element) → IsKept kind items order → length items < limit kind → is_element_text (text_of el) ≡ true
     → number_of (definition_of kind items order) (text_of el) ≡ None → IsParent kind (length items) el.parent → el.rank ≡ length items
     → (kind ≡ Tree → (i : ℕ) → bit_at el.line i ≡ cond (eqb (length items) i || list_any (λ x. eqb x i) (and_above (ancestors (definition_of kind items order)) el.parent)) 1 0)
     → IsKept kind (items ++ el ∷ []) (order ++ length items ∷ [])
@@ -288,7 +288,7 @@ kept_with kind items order el kept room good fresh under ranked lined =
     }
 
 -- the same in the words of the component's definition
-pub kept_with_view : (kind : Kind) (items : List Element) (order : List ℕ) (el : Element) (items' : List Element) (order' : List ℕ) (t : List ℕ) (d : Definition)
+pub kept_with_view : (kind : ComponentKind) (items : List Element) (order : List ℕ) (el : Element) (items' : List Element) (order' : List ℕ) (t : List ℕ) (d : Definition)
     → definition_of kind items order ≡ d → IsKept kind items order → length d.elements < limit d.kind → is_element_text t ≡ true → number_of d t ≡ None
     → IsParent d.kind (length d.elements) el.parent → text_of el ≡ t → el.rank ≡ length d.elements
     → (d.kind ≡ Tree → (i : ℕ) → bit_at el.line i ≡ cond (eqb (length d.elements) i || list_any (λ x. eqb x i) (and_above (ancestors d) el.parent)) 1 0)

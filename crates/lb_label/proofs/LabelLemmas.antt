@@ -2,8 +2,8 @@
 use Rattle.std.proofs.Common.{◌≡◌, refl, ap, sym, ◌∙◌, ℕ, zero, suc, ◌+◌, ◌<◌, ◌≤◌, Bool, true, false, cond, if◌then◌else◌, List, [], ◌∷◌, length, drop, get_or, Option, None, Some, subst, arith}
 use Rattle.std.proofs.lemmas.List.{drop_more, drop_all}
 use Rattle.lb_label.specs.declared.access.Fail.{Fail}
-use Rattle.lb_label.specs.declared.rule.Access.{Access}
-use Rattle.lb_label.specs.declared.rule.Rule.{Rule}
+use Rattle.lb_label.specs.declared.kind.Access.{Access}
+use Rattle.lb_base.specs.declared.rule.Rule.{Rule}
 use Rattle.lb_label.specs.Component.{Definition}
 use Rattle.lb_label.specs.Label.{IsLabel, IsPart, elements_in, label_of}
 use Rattle.lb_label.specs.Rules.{agrees, failing_rule, failure_or, first_disagreement, first_failure}

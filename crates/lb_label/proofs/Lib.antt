@@ -11,3 +11,4 @@ mod NameLemmas
 mod ReadLemmas
 mod PrintLemmas
 mod ReadBackLemmas
+pub mod OneLabel

@@ -11,8 +11,8 @@ use Rattle.std.specs.Str.{bytes_eq, IsUtf8}
 use Rattle.lb_label.proofs.Bits.{same_true, true_same, false_apart, bit_of_one}
 use Rattle.lb_label.proofs.Elements.{bit_or_not, or_right}
 use Rattle.lb_label.proofs.RuleLemmas.{is_false}
-use Rattle.lb_label.specs.declared.rule.Kind.{Kind}
-use Rattle.lb_label.specs.declared.rule.Kind.TheVariants.{Set, Array, Tree}
+use Rattle.lb_label.specs.declared.kind.ComponentKind.{ComponentKind}
+use Rattle.lb_label.specs.declared.kind.ComponentKind.TheVariants.{Set, Array, Tree}
 use Rattle.lb_label.specs.Component.{Definition, IsComponent, number_of}
 use Rattle.lb_label.specs.Label.{IsPart, fits_in, has_element}
 use Rattle.lb_label.specs.LabelText.{failing_from, failing_name, fails, is_named, is_second}
@@ -71,7 +71,7 @@ named_by c valid name n e found within =
 -- ---- names of elements with bits
 
 -- a kind whose parts have a bit for each element
-pub record IsBitwise (kind : Kind) : Type 0 where
+pub record IsBitwise (kind : ComponentKind) : Type 0 where
   pub more : (part n : ℕ) → with_number kind part (Some n) ≡ Some (bit_or part (2 ^ n))
   pub none : (part : ℕ) → with_number kind part None ≡ None
   pub bits : (part e : ℕ) → has_element kind part e ≡ eqb (bit_at part e) 1
@@ -146,7 +146,7 @@ bits_named c valid bitwise first at (name ∷ names) part r small made =
 
 -- ---- the one name of an ARRAY
 
-pub record IsSingle (kind : Kind) : Type 0 where
+pub record IsSingle (kind : ComponentKind) : Type 0 where
   pub more : (part n : ℕ) → with_number kind part (Some n) ≡ cond (eqb part 0 || eqb part (n + 1)) (Some (n + 1)) None
   pub none : (part : ℕ) → with_number kind part None ≡ None
   pub one : (part e : ℕ) → has_element kind part e ≡ eqb part (e + 1)

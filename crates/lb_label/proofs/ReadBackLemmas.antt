@@ -17,8 +17,8 @@ use Rattle.lb_label.proofs.LabelLemmas.{label_length}
 use Rattle.lb_label.proofs.ReadLemmas.{same_filter}
 use Rattle.lb_label.proofs.RuleLemmas.{array_none, array_one, is_false}
 use Rattle.lb_label.proofs.TextLemmas.{not_bracketed_front}
-use Rattle.lb_label.specs.declared.rule.Kind.{Kind}
-use Rattle.lb_label.specs.declared.rule.Kind.TheVariants.{Set, Array, Tree}
+use Rattle.lb_label.specs.declared.kind.ComponentKind.{ComponentKind}
+use Rattle.lb_label.specs.declared.kind.ComponentKind.TheVariants.{Set, Array, Tree}
 use Rattle.lb_label.specs.Component.{Definition, IsComponent, is_delimiter, is_element_text, number_of, numbers}
 use Rattle.lb_label.specs.Label.{IsLabel, IsPart, elements_in, has_element, label_of}
 use Rattle.lb_label.specs.LabelText.{elements_named, failing_from, failing_in, failing_name, fails, in_front, inside, is_bracketed, is_named, is_second, label_text, listed, named_from, named_in, part_text, part_texts, read_label, read_parts, unless_fails}

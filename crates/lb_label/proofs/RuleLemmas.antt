@@ -11,9 +11,9 @@ use Rattle.std.specs.Int.{bit_at, bit_not, w64}
 use Rattle.std.specs.List.{filter, list_any, list_all, range_with_len}
 use Rattle.lb_label.proofs.Bits.{same_true, true_same, false_apart}
 use Rattle.lb_label.proofs.Elements.{all_is_no_other, any_member, any_in_range, bit_or_not, is_member, members, set_below, some_bit, or_cases, or_left, or_right, and_true, both_true}
-use Rattle.lb_label.specs.declared.rule.Kind.{Kind}
-use Rattle.lb_label.specs.declared.rule.Kind.TheVariants.{Set, Array, Tree}
-use Rattle.lb_label.specs.declared.rule.Rule.TheVariants.{ReadArray, ReadSet, ReadTree, WriteDown, WriteUp, WriteSet, WriteTree}
+use Rattle.lb_label.specs.declared.kind.ComponentKind.{ComponentKind}
+use Rattle.lb_label.specs.declared.kind.ComponentKind.TheVariants.{Set, Array, Tree}
+use Rattle.lb_base.specs.declared.rule.Rule.TheVariants.{ReadArray, ReadSet, ReadTree, WriteDown, WriteUp, WriteSet, WriteTree}
 use Rattle.lb_label.specs.Component.{Definition, IsComponent, limit, numbers, is_higher, descends}
 use Rattle.lb_label.specs.Label.{IsPart, fits_in, has_element, elements_in}
 use Rattle.lb_label.specs.Rules.{agrees, blocks, has, is_above, is_below, is_under, lacks_one, none_under}

@@ -10,8 +10,8 @@ use Rattle.std.specs.List.{filter, list_any, list_all}
 use Rattle.lb_label.proofs.Bits.{same_true, true_same, false_apart, bit_of_or_one}
 use Rattle.lb_label.proofs.Elements.{all_is_no_other, both_true, any_member, bit_or_not, is_member, members, set_below, some_bit}
 use Rattle.lb_label.proofs.RuleLemmas.{bits_below, few_in_tree, is_false, tree_members, tree_small, set_members, array_none, array_one, lacks_test, none_pass}
-use Rattle.lb_label.specs.declared.rule.Kind.TheVariants.{Set, Array, Tree}
-use Rattle.lb_label.specs.declared.rule.Rule.TheVariants.{ReadTree, WriteTree}
+use Rattle.lb_label.specs.declared.kind.ComponentKind.TheVariants.{Set, Array, Tree}
+use Rattle.lb_base.specs.declared.rule.Rule.TheVariants.{ReadTree, WriteTree}
 use Rattle.lb_label.specs.Component.{Definition, IsComponent, numbers}
 use Rattle.lb_label.specs.Label.{IsPart, elements_in}
 use Rattle.lb_label.specs.Rules.{agrees, agrees_in, blocks, has, is_under, none_under}

@@ -3,14 +3,14 @@ use Rattle.std.specs.Prelude.{◌≡◌, ℕ, zero, suc, ◌+◌, ◌<◌, ◌�
 use Rattle.std.specs.List.{list_any, position_from, position_or_len, range_with_len}
 use Rattle.std.specs.Option.{option_and_then}
 use Rattle.std.specs.Str.{bytes_eq}
-use Rattle.lb_label.specs.declared.rule.Kind.{Kind}
-use Rattle.lb_label.specs.declared.rule.Kind.TheVariants.{Set, Array, Tree}
+use Rattle.lb_label.specs.declared.kind.ComponentKind.{ComponentKind}
+use Rattle.lb_label.specs.declared.kind.ComponentKind.TheVariants.{Set, Array, Tree}
 use Rattle.lb_label.specs.declared.component.ElementFault.{ElementFault}
 use Rattle.lb_label.specs.declared.component.ElementFault.TheVariants.{TooMany, BadElement, Repeated, NoParent}
 
 -- A component as its definition says. Its elements are numbered from 0 in the order in which they were added.
 pub record Definition : Type 0 where
-  pub kind : Kind
+  pub kind : ComponentKind
   -- the text of each element
   pub elements : List (List ℕ)
   -- the numbers of the elements in their order, which in an ARRAY goes from the highest to the lowest
@@ -19,7 +19,7 @@ pub record Definition : Type 0 where
   pub parents : List (Option ℕ)
 
 -- the component of a kind that has no element
-abbrev pub empty_component : Kind → Definition
+abbrev pub empty_component : ComponentKind → Definition
 empty_component kind = record { kind = kind; elements = []; order = []; parents = [] }
 
 -- the numbers below n
@@ -27,7 +27,7 @@ abbrev pub numbers : ℕ → List ℕ
 numbers n = range_with_len 0 n
 
 -- how many elements a component of a kind has at most
-abbrev pub limit : Kind → ℕ
+abbrev pub limit : ComponentKind → ℕ
 limit Set = 64
 limit Array = 1024
 limit Tree = 64
@@ -93,7 +93,7 @@ descends c a b = list_any (λ ancestor. ancestor == b) (ancestors c a)
 -- ---- what every component keeps
 
 -- the parent that an element has: the root of a TREE has none, and each other element of it an earlier one
-abbrev pub IsParent : Kind → ℕ → Option ℕ → Type 0
+abbrev pub IsParent : ComponentKind → ℕ → Option ℕ → Type 0
 IsParent Tree zero parent = parent ≡ None
 IsParent Tree (suc element) None = ⊥
 IsParent Tree (suc element) (Some parent) = parent < suc element

@@ -1,8 +1,8 @@
 -- Exemptions from rules, as the test of a rule.
 use Rattle.std.specs.Prelude.{Bool, true, false}
 use Rattle.lb_label.specs.declared.exemption.Exempt.{Exempt}
-use Rattle.lb_label.specs.declared.rule.Rule.{Rule}
-use Rattle.lb_label.specs.declared.rule.Rule.TheVariants.{ReadArray, ReadSet, ReadTree, WriteDown, WriteUp, WriteSet, WriteTree}
+use Rattle.lb_base.specs.declared.rule.Rule.{Rule}
+use Rattle.lb_base.specs.declared.rule.Rule.TheVariants.{ReadArray, ReadSet, ReadTree, WriteDown, WriteUp, WriteSet, WriteTree}
 
 -- whether a rule is among the exemptions
 abbrev pub is_exempt : Exempt → Rule → Bool

@@ -3,8 +3,8 @@ use Rattle.std.specs.Prelude.{◌≡◌, ℕ, ◌<◌, ◌==◌, ◌||◌, cond,
 use Rattle.std.specs.Int.{bit_at}
 use Rattle.std.specs.String.{string_bytes}
 use Rattle.lb_label.specs.declared.component.Element.{Element}
-use Rattle.lb_label.specs.declared.rule.Kind.{Kind}
-use Rattle.lb_label.specs.declared.rule.Kind.TheVariants.{Tree}
+use Rattle.lb_label.specs.declared.kind.ComponentKind.{ComponentKind}
+use Rattle.lb_label.specs.declared.kind.ComponentKind.TheVariants.{Tree}
 use Rattle.lb_label.specs.Component.{Definition, IsComponent, rank, descends}
 
 abbrev pub text_of : Element → List ℕ
@@ -20,10 +20,10 @@ abbrev pub line_in : Element → ℕ
 line_in e = e.line
 
 -- the component with these elements in this order
-abbrev pub definition_of : Kind → List Element → List ℕ → Definition
+abbrev pub definition_of : ComponentKind → List Element → List ℕ → Definition
 definition_of kind elements order = record { kind = kind; elements = map text_of elements; order = order; parents = map parent_in elements }
 
-pub record IsKept (kind : Kind) (elements : List Element) (order : List ℕ) : Type 0 where
+pub record IsKept (kind : ComponentKind) (elements : List Element) (order : List ℕ) : Type 0 where
   pub valid : IsComponent (definition_of kind elements order)
   -- each element keeps its rank
   pub ranks : (e : ℕ) → e < length elements → slice_index (map rank_in elements) e ≡ rank (definition_of kind elements order) e

@@ -2,12 +2,12 @@
 use Rattle.std.specs.Prelude.{◌≡◌, ℕ, ◌+◌, ◌^◌, ◌<◌, ◌≤◌, ◌==◌, Bool, List, [], ◌∷◌, length, filter}
 use Rattle.std.specs.Int.{bit_at}
 use Rattle.std.specs.List.{AllZip}
-use Rattle.lb_label.specs.declared.rule.Kind.{Kind}
-use Rattle.lb_label.specs.declared.rule.Kind.TheVariants.{Set, Array, Tree}
+use Rattle.lb_label.specs.declared.kind.ComponentKind.{ComponentKind}
+use Rattle.lb_label.specs.declared.kind.ComponentKind.TheVariants.{Set, Array, Tree}
 use Rattle.lb_label.specs.Component.{Definition, numbers}
 
--- Whether a part has an element: in an ARRAY it is the element's number and 1, in a SET or TREE it has the element's bit.
-abbrev pub has_element : Kind → ℕ → ℕ → Bool
+-- Whether a part has an element: in an ARRAY it is the element's number plus one, in a SET or TREE it has the element's bit.
+abbrev pub has_element : ComponentKind → ℕ → ℕ → Bool
 has_element Array part element = part == element + 1
 has_element Set part element = bit_at part element == 1
 has_element Tree part element = bit_at part element == 1
@@ -17,7 +17,7 @@ abbrev pub elements_in : Definition → ℕ → List ℕ
 elements_in c part = filter (has_element c.kind part) (numbers (length c.elements))
 
 -- a part has at most one element in an ARRAY, and elements of the component alone
-abbrev pub fits_in : Kind → ℕ → ℕ → Type 0
+abbrev pub fits_in : ComponentKind → ℕ → ℕ → Type 0
 fits_in Array n part = part ≤ n
 fits_in Set n part = part < 2 ^ n
 fits_in Tree n part = part < 2 ^ n
@@ -34,3 +34,7 @@ abbrev pub label_of : List Definition → List ℕ → List (List ℕ)
 label_of [] parts = []
 label_of (c ∷ shape) [] = []
 label_of (c ∷ shape) (part ∷ parts) = elements_in c part ∷ label_of shape parts
+
+-- the parts of a label are told by the elements that they stand for
+abbrev pub PartsAreTold : Type 0
+PartsAreTold = (shape : List Definition) (parts others : List ℕ) → IsLabel shape parts → IsLabel shape others → label_of shape parts ≡ label_of shape others → parts ≡ others

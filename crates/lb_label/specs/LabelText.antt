@@ -2,8 +2,8 @@
 use Rattle.std.specs.Prelude.{◌≡◌, ℕ, ◌+◌, ◌-◌, ◌==◌, nat_le, Bool, true, false, not, ◌&&◌, ◌||◌, List, [], ◌∷◌, ◌++◌, length, map, take, drop, filter, find, slice_index, slice_index_or, Option, None, Some, is_none, codes, if◌then◌else◌, Result, Ok, Err}
 use Rattle.std.specs.List.{list_any, slice_split, join_with_byte}
 use Rattle.std.specs.Str.{bytes_eq}
-use Rattle.lb_label.specs.declared.rule.Kind.{Kind}
-use Rattle.lb_label.specs.declared.rule.Kind.TheVariants.{Set, Array, Tree}
+use Rattle.lb_label.specs.declared.kind.ComponentKind.{ComponentKind}
+use Rattle.lb_label.specs.declared.kind.ComponentKind.TheVariants.{Set, Array, Tree}
 use Rattle.lb_label.specs.Component.{Definition, numbers, number_of}
 
 -- what separates the parts of a text, and the elements of a part: `:` and `,`
@@ -36,7 +36,7 @@ named_from part = if is_bracketed part then 1 else 0
 
 -- ---- what fails in a part
 
-abbrev pub is_second : Kind → List ℕ → List ℕ → Bool
+abbrev pub is_second : ComponentKind → List ℕ → List ℕ → Bool
 is_second Array first name = not (bytes_eq name first)
 is_second Set first name = false
 is_second Tree first name = false

@@ -1,12 +1,12 @@
 -- The names of a part taken one after another.
 use Rattle.std.specs.Prelude.{ℕ, ◌+◌, ◌^◌, ◌==◌, ◌||◌, List, [], ◌∷◌, length, bit_or, Option, None, Some, Result, Ok, Err, if◌then◌else◌}
 use Rattle.std.specs.List.{slice_split}
-use Rattle.lb_label.specs.declared.rule.Kind.{Kind}
-use Rattle.lb_label.specs.declared.rule.Kind.TheVariants.{Set, Array, Tree}
+use Rattle.lb_label.specs.declared.kind.ComponentKind.{ComponentKind}
+use Rattle.lb_label.specs.declared.kind.ComponentKind.TheVariants.{Set, Array, Tree}
 use Rattle.lb_label.specs.Component.{Definition, number_of}
 
 -- the part with one element more, if it may have it
-abbrev pub with_number : Kind → ℕ → Option ℕ → Option ℕ
+abbrev pub with_number : ComponentKind → ℕ → Option ℕ → Option ℕ
 with_number Array part None = None
 with_number Set part None = None
 with_number Tree part None = None

@@ -3,16 +3,16 @@ use Rattle.std.specs.Prelude.{◌≡◌, ℕ, ◌+◌, ◌==◌, Bool, true, fal
 use Rattle.std.specs.Cmp.Lexicographic.{pointwise}
 use Rattle.std.specs.List.{list_any, list_all}
 use Rattle.lb_label.specs.declared.access.Fail.{Fail}
-use Rattle.lb_label.specs.declared.rule.Access.{Access}
-use Rattle.lb_label.specs.declared.rule.Access.TheVariants.{Read, Write}
-use Rattle.lb_label.specs.declared.rule.Kind.{Kind}
-use Rattle.lb_label.specs.declared.rule.Kind.TheVariants.{Set, Array, Tree}
-use Rattle.lb_label.specs.declared.rule.Rule.{Rule}
-use Rattle.lb_label.specs.declared.rule.Rule.TheVariants.{ReadArray, ReadSet, ReadTree, WriteDown, WriteUp, WriteSet, WriteTree}
+use Rattle.lb_label.specs.declared.kind.Access.{Access}
+use Rattle.lb_label.specs.declared.kind.Access.TheVariants.{Read, Write}
+use Rattle.lb_label.specs.declared.kind.ComponentKind.{ComponentKind}
+use Rattle.lb_label.specs.declared.kind.ComponentKind.TheVariants.{Set, Array, Tree}
+use Rattle.lb_base.specs.declared.rule.Rule.{Rule}
+use Rattle.lb_base.specs.declared.rule.Rule.TheVariants.{ReadArray, ReadSet, ReadTree, WriteDown, WriteUp, WriteSet, WriteTree}
 use Rattle.lb_label.specs.Component.{Definition, is_higher, descends}
 
 -- the rules that an access to a component of a kind is tested by
-abbrev pub rules_for : Access → Kind → List Rule
+abbrev pub rules_for : Access → ComponentKind → List Rule
 rules_for Read Array = ReadArray ∷ []
 rules_for Read Set = ReadSet ∷ []
 rules_for Read Tree = ReadTree ∷ []
@@ -21,7 +21,7 @@ rules_for Write Set = WriteSet ∷ []
 rules_for Write Tree = WriteTree ∷ []
 
 -- the kind of component that a rule speaks of
-abbrev pub kind_of : Rule → Kind
+abbrev pub kind_of : Rule → ComponentKind
 kind_of ReadArray = Array
 kind_of ReadSet = Set
 kind_of ReadTree = Tree
@@ -106,7 +106,7 @@ failure access shape user exempt value = first_failure access exempt 0 shape use
 -- ---- the rule of grants
 
 -- what a user may hold for writing beside what it holds for reading, in a component of each kind
-abbrev pub agrees_in : Kind → Definition → List ℕ → List ℕ → Bool
+abbrev pub agrees_in : ComponentKind → Definition → List ℕ → List ℕ → Bool
 -- the same element, or none
 agrees_in Array c read write = pointwise nat_eq read write
 -- elements that are all among those for reading

@@ -1,18 +1,19 @@
-//! The rules over labels: which access fails, and which labels a user may hold together.
+// The rules over labels: which access fails, and which labels a user may hold together.
 ghost use Rattle.std.specs.Prelude.{◌≡◌, ℕ, ◌+◌, ◌<◌, ◌==◌, ◌&&◌, length, not, if◌then◌else◌};
 ghost use Rattle.std.specs.Int.{bit_at};
 ghost use Rattle.lb_label.specs.Component.{IsComponent};
 ghost use Rattle.lb_label.specs.Exemption.{is_exempt};
 ghost use Rattle.lb_label.specs.Label.{IsLabel, IsPart, elements_in, label_of};
 ghost use Rattle.lb_label.specs.Rules.{agrees, blocks, failing_rule, failure, first_disagreement, is_under, kind_of};
-ghost use Rattle.lb_label.specs.declared.rule.Access.TheVariants.{Read, Write};
-ghost use Rattle.lb_label.specs.declared.rule.Kind.TheVariants.{Set, Array, Tree};
-ghost use Rattle.lb_label.specs.declared.rule.Rule.TheVariants.{ReadArray, ReadSet, ReadTree, WriteDown, WriteUp, WriteSet, WriteTree};
+ghost use Rattle.lb_label.specs.declared.kind.Access.TheVariants.{Read, Write};
+ghost use Rattle.lb_label.specs.declared.kind.ComponentKind.TheVariants.{Set, Array, Tree};
+ghost use Rattle.lb_base.specs.declared.rule.Rule.TheVariants.{ReadArray, ReadSet, ReadTree, WriteDown, WriteUp, WriteSet, WriteTree};
 
 use crate::component::Component;
 use crate::exemption::Exempt;
-use crate::rule::{Access, Kind, Rule};
+use crate::kind::{Access, ComponentKind};
 use crate::shape::Shape;
+use lb_base::Rule;
 
 /// The component in which an access fails, by its place in the policy, and the rule that fails there.
 #[derive(Clone, Copy, Debug, PartialEq, Eq)]
@@ -93,17 +94,17 @@ fn failing(
     ensures { result ≡ failing_rule access (is_exempt exempt.now) component.now (elements_in component.now user) (elements_in component.now value) }
 {
     match (access, component.kind()) {
-        (Access::Read, Kind::Set) => unless_exempt(Rule::ReadSet, component, user, exempt, value),
-        (Access::Read, Kind::Array) => unless_exempt(
+        (Access::Read, ComponentKind::Set) => unless_exempt(Rule::ReadSet, component, user, exempt, value),
+        (Access::Read, ComponentKind::Array) => unless_exempt(
             Rule::ReadArray,
             component,
             user,
             exempt,
             value,
         ),
-        (Access::Read, Kind::Tree) => unless_exempt(Rule::ReadTree, component, user, exempt, value),
-        (Access::Write, Kind::Set) => unless_exempt(Rule::WriteSet, component, user, exempt, value),
-        (Access::Write, Kind::Array) => match unless_exempt(
+        (Access::Read, ComponentKind::Tree) => unless_exempt(Rule::ReadTree, component, user, exempt, value),
+        (Access::Write, ComponentKind::Set) => unless_exempt(Rule::WriteSet, component, user, exempt, value),
+        (Access::Write, ComponentKind::Array) => match unless_exempt(
             Rule::WriteDown,
             component,
             user,
@@ -113,7 +114,7 @@ fn failing(
             Some(rule) => Some(rule),
             None => unless_exempt(Rule::WriteUp, component, user, exempt, value),
         },
-        (Access::Write, Kind::Tree) => unless_exempt(
+        (Access::Write, ComponentKind::Tree) => unless_exempt(
             Rule::WriteTree,
             component,
             user,
@@ -274,8 +275,8 @@ fn agree(component: &Component, read: u64, write: u64) -> bool
     ensures { result ≡ agrees component.now (elements_in component.now read) (elements_in component.now write) }
 {
     match component.kind() {
-        Kind::Array => read == write,
-        Kind::Set => write & !read == 0,
-        Kind::Tree => under(component, write, read) == write,
+        ComponentKind::Array => read == write,
+        ComponentKind::Set => write & !read == 0,
+        ComponentKind::Tree => under(component, write, read) == write,
     }
 }

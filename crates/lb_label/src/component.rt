@@ -1,14 +1,14 @@
-//! Security label components.
+// Security label components: the elements of a SET, an ARRAY or a TREE, their order and their descent.
 ghost use Rattle.std.specs.Prelude.{◌≡◌, ℕ, ◌+◌, ◌<◌, ◌≤◌, ◌↔◌, ◌==◌, ◌||◌, [], ◌∷◌, ◌++◌, cond, length, IsSome, IfOk, IfSome, IsTrue, is_some, true, MatchResult, OnOk, OnErr, IfErr, map, slice_get, slice_index, slice_index_or};
 ghost use Rattle.std.specs.Int.{bit_at};
 ghost use Rattle.std.specs.List.{list_any};
 ghost use Rattle.std.specs.Option.{option_map, option_and_then, option_copied};
 ghost use Rattle.std.specs.String.{string_bytes};
 ghost use Rattle.lb_label.specs.Component.{IsComponent, Higher, Descends, empty_component, is_delimiter, is_element_text, is_higher, descends, limit, number_of, refusal, with_element, IsParent, ancestors, and_above, rank};
-ghost use Rattle.lb_label.specs.declared.rule.Kind.TheVariants.{Array, Tree};
+ghost use Rattle.lb_label.specs.declared.kind.ComponentKind.TheVariants.{Array, Tree};
 ghost use Rattle.lb_label.specs.Outcome.{IsFault};
 
-use crate::rule::Kind;
+use crate::kind::ComponentKind;
 use std::alloc::{AllocError, Global};
 use std::marker::Model;
 use thiserror::Error;
@@ -30,7 +30,7 @@ struct Element {
 /// Elements are numbered from 0 in the order of adding. Contracts see a component as its definition.
 #[derive(Drop)]
 pub struct Component {
-    kind: Kind,
+    kind: ComponentKind,
     elements: Vec<Element>,
     /// The numbers of the elements in their order, which in an ARRAY goes from the highest to the lowest.
     order: Vec<u32>,
@@ -75,13 +75,13 @@ const ARRAY_LIMIT: u32 = 1024;
 /// The largest number of bytes of an element.
 const ELEMENT_BYTES: usize = 32;
 
-fn limit_of(kind: Kind) -> u32
+fn limit_of(kind: ComponentKind) -> u32
     ensures { result ≡ limit kind }
 {
     match kind {
-        Kind::Set => SET_LIMIT,
-        Kind::Array => ARRAY_LIMIT,
-        Kind::Tree => SET_LIMIT,
+        ComponentKind::Set => SET_LIMIT,
+        ComponentKind::Array => ARRAY_LIMIT,
+        ComponentKind::Tree => SET_LIMIT,
     }
 }
 
@@ -124,7 +124,7 @@ fn append(
 
 impl Component {
     /// The component of this kind that has no element. It takes no memory; `alloc` is where `add` takes it.
-    pub fn empty(alloc: Global, kind: Kind) -> Component
+    pub fn empty(alloc: Global, kind: ComponentKind) -> Component
         ensures { result ≡ empty_component kind }
     {
         Component {
@@ -135,7 +135,7 @@ impl Component {
     }
 
     /// The kind of the component.
-    pub fn kind(&self) -> Kind
+    pub fn kind(&self) -> ComponentKind
         ensures kind { result ≡ self.now.kind }
         ensures valid { IsComponent self.now }
     {
@@ -224,7 +224,7 @@ impl Component {
     /// stands directly under. Refused are, in this order: an element beyond the limit, a text that may be no
     /// element, a text that is an element already, and a parent that is not an element.
     ///
-    /// A refusal and want of memory change nothing.
+    /// After a refusal, and where memory runs out, nothing has changed.
     pub fn add(&mut self, element: &str, parent: Option<&str>) -> Result<(), ElementFault>
         requires { IsSome parent ↔ ((self.old.kind ≡ Tree) × (0 < length self.old.elements)) }
         ensures ok { OnOk result (refusal self.old element.now (option_copied parent.entry) ≡ None) }
@@ -299,8 +299,8 @@ impl Component {
         ensures { self.now.kind ≡ Tree → (i : ℕ) → bit_at result i ≡ cond ((number == i) || list_any (λ ancestor. ancestor == i) (and_above (ancestors self.now) parent)) 1 0 }
     {
         match (self.kind, parent) {
-            (Kind::Tree, None) => 1 << number,
-            (Kind::Tree, Some(parent)) => self.line(parent) | 1 << number,
+            (ComponentKind::Tree, None) => 1 << number,
+            (ComponentKind::Tree, Some(parent)) => self.line(parent) | 1 << number,
             _ => 0,
         }
     }

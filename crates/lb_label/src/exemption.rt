@@ -1,7 +1,7 @@
-//! Exemptions from rules.
+// Exemptions from rules: the set of rules that a user is exempt from in one policy.
 ghost use Rattle.std.specs.Prelude.{◌≡◌, ◌≢◌, IsTrue, false};
 
-use crate::rule::Rule;
+use lb_base::Rule;
 
 /// The rules of one policy that a user is exempt from (GRANT (exemption) statement).
 #[derive(Clone, Copy, Debug, PartialEq, Eq)]

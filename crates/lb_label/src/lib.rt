@@ -5,15 +5,15 @@
 mod access;
 mod component;
 mod exemption;
-mod rule;
+mod kind;
+mod laws;
 mod shape;
-#[cfg(test)]
-mod tests;
 mod text;
 
 pub use access::{Fail, grant_fits, read_fail, write_fail};
 pub use component::{Component, ElementFault};
 pub use exemption::Exempt;
-pub use rule::{Kind, Rule};
-pub use shape::{COMPONENT_LIMIT, NoMemory, Parts, Shape, ShapeFault};
+pub use kind::{Access, ComponentKind};
+pub use laws::parts_are_told_by_their_elements;
+pub use shape::{COMPONENT_LIMIT, Shape, ShapeFault};
 pub use text::{BadLabel, print_text, read_text};

@@ -1,4 +1,4 @@
-//! The components of a policy.
+// The components of a policy in their order, against which labels are read and compared.
 ghost use Rattle.std.specs.Prelude.{◌≡◌, ◌<◌, ◌≤◌, ◌↔◌, ◌++◌, ◌∷◌, [], length, IfOk, IsErr, IsTrue, OnOk, OnErr, slice_get, slice_index_or};
 ghost use Rattle.std.specs.Option.{option_map};
 ghost use Rattle.std.specs.Arc.{arc_value};
@@ -7,22 +7,13 @@ ghost use Rattle.lb_label.specs.Shape.{IsShape};
 
 use crate::component::Component;
 use arrayvec::ArrayVec;
-use std::alloc::AllocError;
+use lb_base::NoMemory;
 use std::marker::Model;
 use std::sync::Arc;
 use thiserror::Error;
 
-/// Want of memory.
-pub type NoMemory = AllocError;
-
 /// The largest number of components of a policy.
 pub const COMPONENT_LIMIT: usize = 16;
-
-/// A label: a part for each component of its policy, in policy order.
-///
-/// In a SET or TREE bit i of a part stands for the element with the number i. In an ARRAY a part is the number of its
-/// element and 1. In each of them 0 stands for no element.
-pub type Parts = ArrayVec<u64, { COMPONENT_LIMIT }>;
 
 /// The components of a policy in policy order (CREATE SECURITY POLICY statement), at most 16. Contracts see the list.
 #[derive(Drop)]
@@ -124,7 +115,7 @@ impl Shape {
         }
     }
 
-    /// The same components once more. It fails only for want of memory.
+    /// The same components once more. It fails only where memory runs out.
     pub fn copy(&self) -> Result<Shape, NoMemory>
         ensures { IfOk result (λ copy. copy ≡ self.now) }
     {

@@ -1,4 +1,4 @@
-//! The text of a label, read and written.
+// The text of a label, as SECLABEL takes it and SECLABEL_TO_CHAR gives it: read and written.
 ghost use Rattle.std.specs.Prelude.{◌≡◌, ℕ, filter, ◌+◌, ◌-◌, ◌^◌, ◌<◌, ◌≤◌, ◌==◌, List, [], ◌∷◌, ◌++◌, length, map, min, All, true, false, MatchResult, IfOk, OnOk, IfSome, IfNone, slice_index_or, Ok, Err};
 ghost use Rattle.std.specs.Int.{bit_at};
 ghost use Rattle.std.specs.List.{slice_split, join_with_byte};
@@ -7,14 +7,15 @@ ghost use Rattle.std.specs.Str.{IsUtf8};
 ghost use Rattle.std.specs.String.{string_bytes};
 ghost use Rattle.lb_label.specs.Label.{IsLabel, IsPart, elements_in, has_element, label_of};
 ghost use Rattle.lb_label.specs.Component.{numbers};
-ghost use Rattle.lb_label.specs.declared.rule.Kind.TheVariants.{Array};
+ghost use Rattle.lb_label.specs.declared.kind.ComponentKind.TheVariants.{Array};
 ghost use Rattle.lb_label.specs.LabelText.{is_bracketed, inside, label_text, named_from, named_in, part_text, read_label};
 ghost use Rattle.lb_label.specs.Reading.{split_left, with_name, with_names};
 
 use crate::component::Component;
-use crate::rule::Kind;
-use crate::shape::{NoMemory, Parts, Shape};
+use crate::kind::ComponentKind;
+use crate::shape::Shape;
 use arrayvec::ArrayVec;
+use lb_base::{NoMemory, Parts};
 use std::alloc::Global;
 use thiserror::Error;
 
@@ -131,8 +132,8 @@ fn with_element(component: &Component, part: u64, name: &str) -> Option<u64>
 {
     let number = u64::from(component.find(name)?);
     match component.kind() {
-        Kind::Array if part == 0 || part == number + 1 => Some(number + 1),
-        Kind::Array => None,
+        ComponentKind::Array if part == 0 || part == number + 1 => Some(number + 1),
+        ComponentKind::Array => None,
         _ => Some(part | 1 << number),
     }
 }
@@ -190,9 +191,9 @@ fn numbers_in(component: &Component, part: u64) -> ArrayVec<u32, 64>
     ensures { result.items ≡ elements_in component.now part }
 {
     match component.kind() {
-        Kind::Array => numbers_up_to_one(part, component.len()),
-        Kind::Set => numbers_of_bits(part, component.len()),
-        Kind::Tree => numbers_of_bits(part, component.len()),
+        ComponentKind::Array => numbers_up_to_one(part, component.len()),
+        ComponentKind::Set => numbers_of_bits(part, component.len()),
+        ComponentKind::Tree => numbers_of_bits(part, component.len()),
     }
 }
 

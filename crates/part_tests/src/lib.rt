@@ -10,6 +10,8 @@ mod copies;
 #[cfg(test)]
 mod entries;
 #[cfg(test)]
+mod label;
+#[cfg(test)]
 mod read;
 #[cfg(test)]
 mod readable;

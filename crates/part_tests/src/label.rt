@@ -1,16 +1,20 @@
-//! Worked examples: labels of three components, what each rule blocks, texts, limits.
+// Label components, labels and their rules: what each rule blocks, label texts, limits, as one table for each thing.
 ghost use Rattle.std.specs.Prelude.{◌≡◌, ◌≢◌, IfOk};
-ghost use Rattle.lb_label.specs.declared.rule.Kind.TheVariants.{Set, Array, Tree};
+ghost use Rattle.lb_label.specs.declared.kind.ComponentKind.TheVariants.{Set, Array, Tree};
 
-use crate::Rule::{ReadArray, ReadSet, ReadTree, WriteDown, WriteSet, WriteTree, WriteUp};
-use crate::*;
+use lb_base::Rule::{self, ReadArray, ReadSet, ReadTree, WriteDown, WriteSet, WriteTree, WriteUp};
+use lb_base::{NoMemory, values_stand_in_one_order};
+use lb_label::{
+    BadLabel, Component, ComponentKind, ElementFault, Exempt, Fail, Shape, ShapeFault, grant_fits,
+    parts_are_told_by_their_elements, print_text, read_fail, read_text, write_fail,
+};
 use std::alloc::Global;
 use std::process::Abort;
 use std::sync::Arc;
 use std::test::Fail as Failure;
 
 /// A SET or an ARRAY of these elements.
-fn flat(alloc: Global, kind: Kind, elements: &[&str]) -> Result<Component, ElementFault>
+fn flat(alloc: Global, kind: ComponentKind, elements: &[&str]) -> Result<Component, ElementFault>
     requires { kind ≢ Tree }
 {
     let mut component = Component::empty(alloc, kind);
@@ -22,7 +26,7 @@ fn flat(alloc: Global, kind: Kind, elements: &[&str]) -> Result<Component, Eleme
 
 /// A TREE of these elements, each under the one beside it.
 fn tree(alloc: Global, root: &str, elements: &[(&str, &str)]) -> Result<Component, ElementFault> {
-    let mut component = Component::empty(alloc, Kind::Tree);
+    let mut component = Component::empty(alloc, ComponentKind::Tree);
     component.add(root, None)?;
     for (element, parent) in elements {
         component.add(element, Some(parent))?;
@@ -32,8 +36,8 @@ fn tree(alloc: Global, root: &str, elements: &[(&str, &str)]) -> Result<Componen
 
 /// The components LEVEL, DEPT and REGION.
 fn level_dept_region(alloc: Global) -> Result<Shape, Failure> {
-    let level = flat(alloc, Kind::Array, &["TOP", "MID", "LOW"])?;
-    let dept = flat(alloc, Kind::Set, &["HR", "IT", "FIN"])?;
+    let level = flat(alloc, ComponentKind::Array, &["TOP", "MID", "LOW"])?;
+    let dept = flat(alloc, ComponentKind::Set, &["HR", "IT", "FIN"])?;
     let region = tree(alloc, "ALL", &[("EU", "ALL"), ("FR", "EU"), ("US", "ALL")])?;
     let mut shape = Shape::empty();
     shape.push(Arc::new(alloc, level)?)?;
@@ -50,7 +54,7 @@ const NO_LABEL: &str = "():():()";
 
 /// A user's label, its exemption, the label of data, and the rules by which reading and writing fail.
 /// The first component that fails is named, and not a later one. The root of a tree is under none of the others.
-type Access = (
+type Case = (
     &'static str,
     Option<Rule>,
     &'static str,
@@ -58,7 +62,7 @@ type Access = (
     Option<Rule>,
 );
 
-const ACCESSES: [Access; 38] = [
+const ACCESSES: [Case; 38] = [
     (MHE, None, "MID:HR:FR", None, None),
     (MHE, None, "TOP:HR:FR", Some(ReadArray), Some(WriteUp)),
     (MHE, None, "LOW:():()", None, Some(WriteDown)),
@@ -163,7 +167,7 @@ fn fail(rule: Rule) -> Fail {
     }
 }
 
-fn check_accesses(rt: &impl Abort, shape: &Shape, rows: &[Access]) -> Result<(), BadLabel> {
+fn check_accesses(rt: &impl Abort, shape: &Shape, rows: &[Case]) -> Result<(), BadLabel> {
     for (user, exempt, value, read, write) in rows {
         let user_parts = read_text(shape, user)?;
         let value_parts = read_text(shape, value)?;
@@ -177,6 +181,12 @@ fn check_accesses(rt: &impl Abort, shape: &Shape, rows: &[Access]) -> Result<(),
         assert!(rt; writes == write.map(fail), "{user} writes {value}");
     }
     Ok(())
+}
+
+#[test]
+fn laws_stand() {
+    parts_are_told_by_their_elements();
+    values_stand_in_one_order();
 }
 
 #[test]
@@ -290,7 +300,7 @@ fn texts_are_read_and_written(rt: HostRuntime) -> Result<(), Failure> {
 }
 
 /// Fills a component up, and what one element more is answered.
-fn overfill(alloc: Global, kind: Kind, most: u32) -> Result<Option<ElementFault>, Failure>
+fn overfill(alloc: Global, kind: ComponentKind, most: u32) -> Result<Option<ElementFault>, Failure>
     requires { kind ≢ Tree }
 {
     let mut component = Component::empty(alloc, kind);
@@ -304,18 +314,18 @@ fn overfill(alloc: Global, kind: Kind, most: u32) -> Result<Option<ElementFault>
 fn elements_have_limits(rt: HostRuntime) -> Result<(), Failure> {
     assert!(rt;
         matches!(
-            overfill(rt.alloc(), Kind::Set, 64)?,
+            overfill(rt.alloc(), ComponentKind::Set, 64)?,
             Some(ElementFault::TooMany(64))
         )
     );
-    assert!(rt; matches!(overfill(rt.alloc(), Kind::Set, 63)?, None));
+    assert!(rt; matches!(overfill(rt.alloc(), ComponentKind::Set, 63)?, None));
     assert!(rt;
         matches!(
-            overfill(rt.alloc(), Kind::Array, 1024)?,
+            overfill(rt.alloc(), ComponentKind::Array, 1024)?,
             Some(ElementFault::TooMany(1024))
         )
     );
-    assert!(rt; matches!(overfill(rt.alloc(), Kind::Array, 1023)?, None));
+    assert!(rt; matches!(overfill(rt.alloc(), ComponentKind::Array, 1023)?, None));
     Ok(())
 }
 
@@ -329,7 +339,7 @@ fn elements_are_refused(rt: HostRuntime) -> Result<(), Failure> {
         "E:U",
         "123456789012345678901234567890123",
     ] {
-        let mut dept = Component::empty(rt.alloc(), Kind::Set);
+        let mut dept = Component::empty(rt.alloc(), ComponentKind::Set);
         assert!(rt;
             matches!(dept.add(text, None), Err(ElementFault::BadElement)),
             "{text}"
@@ -337,7 +347,7 @@ fn elements_are_refused(rt: HostRuntime) -> Result<(), Failure> {
     }
     let mut region = tree(rt.alloc(), "ALL", &[("EU", "ALL")])?;
     assert_eq!(rt; region.len(), 2);
-    assert!(rt; region.kind() == Kind::Tree);
+    assert!(rt; region.kind() == ComponentKind::Tree);
     assert!(rt; matches!(region.add("FR", Some("UK")), Err(ElementFault::NoParent)));
     assert!(rt; matches!(region.add("EU", Some("UK")), Err(ElementFault::Repeated)));
     assert!(rt;
@@ -360,7 +370,7 @@ fn elements_are_refused(rt: HostRuntime) -> Result<(), Failure> {
 
 #[test]
 fn a_policy_has_sixteen_components(rt: HostRuntime) -> Result<(), Failure> {
-    let level = Arc::new(rt.alloc(), flat(rt.alloc(), Kind::Array, &["TOP"])?)?;
+    let level = Arc::new(rt.alloc(), flat(rt.alloc(), ComponentKind::Array, &["TOP"])?)?;
     let mut shape = Shape::empty();
     for _ in 0..16 {
         shape.push(level.clone()?)?;

@@ -1,6 +1,6 @@
 use Rattle.std.proofs.Common.{◌≢◌}
-use Rattle.lb_label.specs.declared.rule.Kind.TheVariants.{Tree}
-use Rattle.lb_label.proofs.tests.flat.Given as goal
+use Rattle.lb_label.specs.declared.kind.ComponentKind.TheVariants.{Tree}
+use Rattle.part_tests.proofs.label.flat.Given as goal
 
 abbrev pub invariant-loop-element : goal.invariant-loop-element
 invariant-loop-element l = l.component.kind ≢ Tree
