@@ -3,3 +3,4 @@ pub mod Pieced
 pub mod Worded
 pub mod Sectioned
 pub mod Mapped
+pub mod Appended

@@ -7,11 +7,11 @@ use Rattle.std.specs.Prelude.{min, ◌==◌, ◌&&◌, ◌||◌}
 use Rattle.lb_split.specs.declared.scan.Place.{Place}
 use Rattle.lb_split.specs.declared.scan.Place.TheVariants.{Open}
 use Rattle.lb_split.specs.Lexing.{begins, behind, passed_len, is_gap, is_inside, gap_len, statement_len, is_blank, white_len, is_quit, line_len, next_line, next_header_line}
-use Rattle.lb_split.specs.Pieces.{statement_of, opening, piece_at, taken, with_some, pieces_in, pieces_from, before, first_of, resumed, start_of, IsWithin}
+use Rattle.lb_split.specs.Pieces.{statement_of, piece_kind, piece_at, taken, with_some, pieces_in, pieces_from, before, first_of, resumed, start_of, IsWithin}
 use Rattle.lb_split.specs.declared.piece.Piece.{Piece}
 use Rattle.lb_split.specs.declared.piece.Piece.TheVariants as pieces
-use Rattle.lb_split.specs.declared.scan.Opening.{Opening}
-use Rattle.lb_split.specs.declared.scan.Opening.TheVariants as openings
+use Rattle.lb_split.specs.declared.scan.PieceKind.{PieceKind}
+use Rattle.lb_split.specs.declared.scan.PieceKind.TheVariants as piece_kinds
 use Rattle.lb_split.proofs.Scanned.{line_then_next, next_some, line_some, white_blank}
 
 le_or : (n m : ℕ) → (n ≤ m) ⊎ (m < n)
@@ -35,33 +35,33 @@ skip_one : (b : ℕ) (bs : List ℕ) (at n : ℕ) → 1 ≤ n → pieces_in (b �
 skip_one b bs at zero h = absurd (omega arith)
 skip_one b bs at (suc n) h = let e : n ≡ suc n - 1 = omega arith in ap (pieces_in bs (at + 1)) e
 
-first_true : (h b q : Bool) → cond h openings.Header (cond b openings.Blank (cond q openings.Quit openings.Statement)) ≡ openings.Header → h ≡ true
+first_true : (h b q : Bool) → cond h piece_kinds.Header (cond b piece_kinds.Blank (cond q piece_kinds.Quit piece_kinds.Statement)) ≡ piece_kinds.Header → h ≡ true
 first_true true b q e = refl
 first_true false true q e = absurd cc
 first_true false false true e = absurd cc
 first_true false false false e = absurd cc
 
-blank_true : (h b q : Bool) → cond h openings.Header (cond b openings.Blank (cond q openings.Quit openings.Statement)) ≡ openings.Quit → b ≡ false
+blank_true : (h b q : Bool) → cond h piece_kinds.Header (cond b piece_kinds.Blank (cond q piece_kinds.Quit piece_kinds.Statement)) ≡ piece_kinds.Quit → b ≡ false
 blank_true true b q e = absurd cc
 blank_true false true q e = absurd cc
 blank_true false false q e = refl
 
-blank_true' : (h b q : Bool) → cond h openings.Header (cond b openings.Blank (cond q openings.Quit openings.Statement)) ≡ openings.Statement → b ≡ false
+blank_true' : (h b q : Bool) → cond h piece_kinds.Header (cond b piece_kinds.Blank (cond q piece_kinds.Quit piece_kinds.Statement)) ≡ piece_kinds.Statement → b ≡ false
 blank_true' true b q e = absurd cc
 blank_true' false true q e = absurd cc
 blank_true' false false q e = refl
 
-header_there : (text : List ℕ) → opening text ≡ openings.Header → begins 64 (drop (gap_len text) text) ≡ true
+pub header_there : (text : List ℕ) → piece_kind text ≡ piece_kinds.Header → begins 64 (drop (gap_len text) text) ≡ true
 header_there text e = first_true _ (is_blank (statement_of text)) (is_quit (statement_of text)) e
 
-quit_there : (text : List ℕ) → opening text ≡ openings.Quit → is_blank (statement_of text) ≡ false
+pub quit_there : (text : List ℕ) → piece_kind text ≡ piece_kinds.Quit → is_blank (statement_of text) ≡ false
 quit_there text e = blank_true (begins 64 (drop (gap_len text) text)) _ (is_quit (statement_of text)) e
 
-statement_there : (text : List ℕ) → opening text ≡ openings.Statement → is_blank (statement_of text) ≡ false
+pub statement_there : (text : List ℕ) → piece_kind text ≡ piece_kinds.Statement → is_blank (statement_of text) ≡ false
 statement_there text e = blank_true' (begins 64 (drop (gap_len text) text)) _ (is_quit (statement_of text)) e
 
 -- a statement that isn't blank goes on behind its white space
-beyond_white : (text : List ℕ) → is_blank (statement_of text) ≡ false → white_len text < statement_len text
+pub beyond_white : (text : List ℕ) → is_blank (statement_of text) ≡ false → white_len text < statement_len text
 beyond_white text h = lt_by (statement_len text) (white_len text) (white_blank (statement_len text) text)
   where
     blank_then : gap_len (statement_of text) ≡ length (statement_of text) → ⊥
@@ -70,19 +70,19 @@ beyond_white text h = lt_by (statement_len text) (white_len text) (white_blank (
     lt_by : (n w : ℕ) → (n ≤ w → gap_len (statement_of text) ≡ length (statement_of text)) → w < n
     lt_by n w f = elim (le_or n w) [ inl le ↦ absurd (blank_then (f le)) | inr lt ↦ lt ]
 
-taken_some : (o : Opening) (text : List ℕ) → opening text ≡ o → 1 ≤ taken o text
-taken_some openings.Header text e = omega (arith, next_some (drop (gap_len text) text) (header_there text e))
-taken_some openings.Blank text e = omega arith
-taken_some openings.Quit text e = omega (arith, beyond_white text (quit_there text e))
-taken_some openings.Statement text e = omega arith
+taken_some : (o : PieceKind) (text : List ℕ) → piece_kind text ≡ o → 1 ≤ taken o text
+taken_some piece_kinds.Header text e = omega (arith, next_some (drop (gap_len text) text) (header_there text e))
+taken_some piece_kinds.Blank text e = omega arith
+taken_some piece_kinds.Quit text e = omega (arith, beyond_white text (quit_there text e))
+taken_some piece_kinds.Statement text e = omega arith
 
-step_cons : (b : ℕ) (bs : List ℕ) (at : ℕ) (o : Opening) → opening (b ∷ bs) ≡ o
+step_cons : (b : ℕ) (bs : List ℕ) (at : ℕ) (o : PieceKind) → piece_kind (b ∷ bs) ≡ o
     → pieces_in (b ∷ bs) at 0 ≡ with_some (piece_at o at (b ∷ bs)) (pieces_in (b ∷ bs) at (taken o (b ∷ bs)))
 step_cons b bs at o e =
-    ap (λ (x : Opening). with_some (piece_at x at (b ∷ bs)) (pieces_in bs (at + 1) (taken x (b ∷ bs) - 1))) e
+    ap (λ (x : PieceKind). with_some (piece_at x at (b ∷ bs)) (pieces_in bs (at + 1) (taken x (b ∷ bs) - 1))) e
     ∙ ap (with_some (piece_at o at (b ∷ bs))) (sym (skip_one b bs at (taken o (b ∷ bs)) (taken_some o (b ∷ bs) e)))
 
-step_some : (text : List ℕ) (at : ℕ) (o : Opening) → 1 ≤ length text → opening text ≡ o
+step_some : (text : List ℕ) (at : ℕ) (o : PieceKind) → 1 ≤ length text → piece_kind text ≡ o
     → pieces_in text at 0 ≡ with_some (piece_at o at text) (pieces_in text at (taken o text))
 step_some [] at o lt e = absurd (omega arith)
 step_some (b ∷ bs) at o lt e = step_cons b bs at o e
@@ -94,7 +94,7 @@ at_offset bytes at n =
     pieces_skip (drop at bytes) at n ∙ ap (λ (t : List ℕ). pieces_in t (at + n) 0) (drop-drop n at bytes)
     ∙ sym (pieces_skip bytes 0 (at + n) ∙ ap (λ (a : ℕ). pieces_in (drop (at + n) bytes) a 0) e)
 
-step : (bytes : List ℕ) (at : ℕ) (o : Opening) → at < length bytes → opening (drop at bytes) ≡ o
+pub step : (bytes : List ℕ) (at : ℕ) (o : PieceKind) → at < length bytes → piece_kind (drop at bytes) ≡ o
     → pieces_from bytes at ≡ with_some (piece_at o at (drop at bytes)) (pieces_from bytes (at + taken o (drop at bytes)))
 step bytes at o lt e =
     let zero : at + 0 ≡ at = omega arith in
@@ -109,19 +109,19 @@ pieces_min bytes n = elim (le_or n (length bytes)) [
       ap (pieces_from bytes) e ∙ pieces_none bytes 0 (length bytes) (omega arith) ∙ sym (pieces_none bytes 0 n (omega arith))
 ]
 
-pub blank_step : (bytes : List ℕ) (at : ℕ) (text : List ℕ) → text ≡ drop at bytes → at < length bytes → None ≡ piece_at (opening text) at text
+pub blank_step : (bytes : List ℕ) (at : ℕ) (text : List ℕ) → text ≡ drop at bytes → at < length bytes → None ≡ piece_at (piece_kind text) at text
     → pieces_from bytes at ≡ pieces_from bytes (min (at + statement_len text + 1) (length bytes))
-blank_step bytes at text t lt e = blank_by (opening text) refl e
+blank_step bytes at text t lt e = blank_by (piece_kind text) refl e
   where
-    blank_by : (o : Opening) → opening text ≡ o → None ≡ piece_at o at text → pieces_from bytes at ≡ pieces_from bytes (min (at + statement_len text + 1) (length bytes))
-    blank_by openings.Header f e = absurd cc
-    blank_by openings.Quit f e = absurd cc
-    blank_by openings.Statement f e = absurd cc
-    blank_by openings.Blank f e =
+    blank_by : (o : PieceKind) → piece_kind text ≡ o → None ≡ piece_at o at text → pieces_from bytes at ≡ pieces_from bytes (min (at + statement_len text + 1) (length bytes))
+    blank_by piece_kinds.Header f e = absurd cc
+    blank_by piece_kinds.Quit f e = absurd cc
+    blank_by piece_kinds.Statement f e = absurd cc
+    blank_by piece_kinds.Blank f e =
         let k : at + (statement_len (drop at bytes) + 1) ≡ at + statement_len text + 1 = rw t (omega arith) in
-        step bytes at openings.Blank lt (ap opening (sym t) ∙ f) ∙ ap (pieces_from bytes) k ∙ sym (pieces_min bytes (at + statement_len text + 1))
+        step bytes at piece_kinds.Blank lt (ap piece_kind (sym t) ∙ f) ∙ ap (pieces_from bytes) k ∙ sym (pieces_min bytes (at + statement_len text + 1))
 
-header_end : (bytes : List ℕ) (at g : ℕ) → (let t = drop g (drop at bytes) in at + g + line_len t + next_line (drop (at + g + line_len t) bytes) ≡ at + (g + next_line t))
+pub header_end : (bytes : List ℕ) (at g : ℕ) → (let t = drop g (drop at bytes) in at + g + line_len t + next_line (drop (at + g + line_len t) bytes) ≡ at + (g + next_line t))
 header_end bytes at g =
     let t : List ℕ = drop g (drop at bytes) in
     let e : drop (at + g + line_len (drop g (drop at bytes))) bytes ≡ drop (line_len (drop g (drop at bytes))) (drop g (drop at bytes)) =
@@ -131,26 +131,26 @@ header_end bytes at g =
 quit_end : (bytes : List ℕ) (at n : ℕ) → at + n + next_header_line (drop (at + n) bytes) ≡ at + (n + next_header_line (drop n (drop at bytes)))
 quit_end bytes at n = rw (drop-drop n at bytes) (omega arith)
 
-found_by : (bytes : List ℕ) (at : ℕ) (o : Opening) (p : Piece) → Some p ≡ piece_at o at (drop at bytes)
+found_by : (bytes : List ℕ) (at : ℕ) (o : PieceKind) (p : Piece) → Some p ≡ piece_at o at (drop at bytes)
     → with_some (piece_at o at (drop at bytes)) (pieces_from bytes (at + taken o (drop at bytes))) ≡ before p (pieces_from bytes (resumed bytes p))
-found_by bytes at openings.Blank p e = absurd cc
-found_by bytes at openings.Header p e =
+found_by bytes at piece_kinds.Blank p e = absurd cc
+found_by bytes at piece_kinds.Header p e =
     let q : p ≡ pieces.Header (at + gap_len (drop at bytes)) (at + gap_len (drop at bytes) + line_len (drop (gap_len (drop at bytes)) (drop at bytes))) = cc in
     rw q (ap (λ (n : ℕ). pieces.Header (at + gap_len (drop at bytes)) (at + gap_len (drop at bytes) + line_len (drop (gap_len (drop at bytes)) (drop at bytes))) ∷ pieces_from bytes n) (sym (header_end bytes at (gap_len (drop at bytes)))))
-found_by bytes at openings.Quit p e =
+found_by bytes at piece_kinds.Quit p e =
     let q : p ≡ pieces.Quit (at + white_len (drop at bytes)) (at + statement_len (drop at bytes)) = cc in
     rw q (ap (λ (n : ℕ). pieces.Quit (at + white_len (drop at bytes)) (at + statement_len (drop at bytes)) ∷ pieces_from bytes n) (sym (quit_end bytes at (statement_len (drop at bytes)))))
-found_by bytes at openings.Statement p e =
+found_by bytes at piece_kinds.Statement p e =
     let q : p ≡ pieces.Statement (at + white_len (drop at bytes)) (at + statement_len (drop at bytes)) = cc in
     let k : at + (statement_len (drop at bytes) + 1) ≡ at + statement_len (drop at bytes) + 1 = omega arith in
     rw q (ap (λ (ps : List Piece). pieces.Statement (at + white_len (drop at bytes)) (at + statement_len (drop at bytes)) ∷ ps)
     (ap (pieces_from bytes) k ∙ sym (pieces_min bytes (at + statement_len (drop at bytes) + 1))))
 
-pub found_step : (bytes : List ℕ) (at : ℕ) (text : List ℕ) (p : Piece) → text ≡ drop at bytes → at < length bytes → Some p ≡ piece_at (opening text) at text
+pub found_step : (bytes : List ℕ) (at : ℕ) (text : List ℕ) (p : Piece) → text ≡ drop at bytes → at < length bytes → Some p ≡ piece_at (piece_kind text) at text
     → pieces_from bytes at ≡ before p (pieces_from bytes (resumed bytes p))
 found_step bytes at text p t lt e =
-    let e2 : Some p ≡ piece_at (opening (drop at bytes)) at (drop at bytes) = subst (λ (x : List ℕ). Some p ≡ piece_at (opening x) at x) t e in
-    step bytes at (opening (drop at bytes)) lt refl ∙ found_by bytes at (opening (drop at bytes)) p e2
+    let e2 : Some p ≡ piece_at (piece_kind (drop at bytes)) at (drop at bytes) = subst (λ (x : List ℕ). Some p ≡ piece_at (piece_kind x) at x) t e in
+    step bytes at (piece_kind (drop at bytes)) lt refl ∙ found_by bytes at (piece_kind (drop at bytes)) p e2
 
 pub first_before : (p : Piece) (ps : List Piece) → first_of (before p ps) ≡ p
 first_before (pieces.Header from to) ps = refl
@@ -178,10 +178,10 @@ line_within (b ∷ bs) = within_by (b == 10 || b == 13 && begins 10 bs) (line_le
     within_by true m n h = omega arith
     within_by false m n h = omega arith
 
-within_by : (bytes : List ℕ) (at : ℕ) (o : Opening) (p : Piece) → at < length bytes → opening (drop at bytes) ≡ o
+within_by : (bytes : List ℕ) (at : ℕ) (o : PieceKind) (p : Piece) → at < length bytes → piece_kind (drop at bytes) ≡ o
     → Some p ≡ piece_at o at (drop at bytes) → (at ≤ start_of bytes p) × IsWithin bytes p
-within_by bytes at openings.Blank p lt f e = absurd cc
-within_by bytes at openings.Header p lt f e =
+within_by bytes at piece_kinds.Blank p lt f e = absurd cc
+within_by bytes at piece_kinds.Header p lt f e =
     let q : p ≡ pieces.Header (at + gap_len (drop at bytes)) (at + gap_len (drop at bytes) + line_len (drop (gap_len (drop at bytes)) (drop at bytes))) = cc in
     let some = line_some (drop (gap_len (drop at bytes)) (drop at bytes)) (header_there (drop at bytes) f) in
     let in_line = line_within (drop (gap_len (drop at bytes)) (drop at bytes)) in
@@ -189,13 +189,13 @@ within_by bytes at openings.Header p lt f e =
     let len = length-drop at bytes in
     let len2 = length-drop (gap_len (drop at bytes)) (drop at bytes) in
     rw q (omega arith, (omega (arith, some), omega (arith, lt, in_line, in_text, len, len2)))
-within_by bytes at openings.Quit p lt f e =
+within_by bytes at piece_kinds.Quit p lt f e =
     let q : p ≡ pieces.Quit (at + white_len (drop at bytes)) (at + statement_len (drop at bytes)) = cc in
     let some = beyond_white (drop at bytes) (quit_there (drop at bytes) f) in
     let in_text = passed_within is_inside Open (drop at bytes) in
     let len = length-drop at bytes in
     rw q (omega arith, (omega (arith, some), omega (arith, lt, in_text, len)))
-within_by bytes at openings.Statement p lt f e =
+within_by bytes at piece_kinds.Statement p lt f e =
     let q : p ≡ pieces.Statement (at + white_len (drop at bytes)) (at + statement_len (drop at bytes)) = cc in
     let some = beyond_white (drop at bytes) (statement_there (drop at bytes) f) in
     let in_text = passed_within is_inside Open (drop at bytes) in
@@ -203,6 +203,6 @@ within_by bytes at openings.Statement p lt f e =
     rw q (omega arith, (omega (arith, some), omega (arith, lt, in_text, len)))
 
 pub found_within : (bytes : List ℕ) (at : ℕ) (text : List ℕ) (p : Piece) → text ≡ drop at bytes → at < length bytes
-    → Some p ≡ piece_at (opening text) at text → (at ≤ start_of bytes p) × IsWithin bytes p
+    → Some p ≡ piece_at (piece_kind text) at text → (at ≤ start_of bytes p) × IsWithin bytes p
 found_within bytes at text p t lt e =
-    within_by bytes at (opening (drop at bytes)) p lt refl (subst (λ (x : List ℕ). Some p ≡ piece_at (opening x) at x) t e)
+    within_by bytes at (piece_kind (drop at bytes)) p lt refl (subst (λ (x : List ℕ). Some p ≡ piece_at (piece_kind x) at x) t e)

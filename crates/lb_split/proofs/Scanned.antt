@@ -11,11 +11,11 @@ use Rattle.lb_split.specs.declared.scan.Place.TheVariants.{Open, Quoted, Comment
 drop_at : (text : List ℕ) (i d : ℕ) → i < length text → drop i text ≡ get_or text i d ∷ drop (i + 1) text
 drop_at text i d lt = let k : i + 1 ≡ suc i = omega arith in rw k (drop-cons text i d lt)
 
-passed_cons : (test : Place → ℕ → Bool) (p : Place) (b : ℕ) (bs : List ℕ) → test (behind p b bs) b ≡ true
+pub passed_cons : (test : Place → ℕ → Bool) (p : Place) (b : ℕ) (bs : List ℕ) → test (behind p b bs) b ≡ true
     → passed_len test p (b ∷ bs) ≡ passed_len test (behind p b bs) bs + 1
 passed_cons test p b bs h = rw h refl
 
-passed_stop : (test : Place → ℕ → Bool) (p : Place) (b : ℕ) (bs : List ℕ) → test (behind p b bs) b ≡ false
+pub passed_stop : (test : Place → ℕ → Bool) (p : Place) (b : ℕ) (bs : List ℕ) → test (behind p b bs) b ≡ false
     → passed_len test p (b ∷ bs) ≡ 0
 passed_stop test p b bs h = rw h refl
 

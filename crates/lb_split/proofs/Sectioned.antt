@@ -3,13 +3,13 @@ use Rattle.std.proofs.Common.{Bool, true, false, ◌≡◌, ℕ, ◌+◌, ◌-�
 use Rattle.std.specs.Prelude.{◌&&◌, not}
 use Rattle.lb_split.specs.Pieces.{pieces_from, before, resumed}
 use Rattle.lb_split.specs.Headers.{is_setup}
-use Rattle.lb_split.specs.Scripts.{header_at, is_misplaced, breaks, breaking, line_of, statements_in, with_section, section_by, with_header, script_in, unless_broken, script_by, script_of}
+use Rattle.lb_split.specs.Scripts.{header_at, is_misplaced, breaks, breaking, line_of, section_statements, with_section, section_by, with_header, script_in, unless_broken, script_by, script_of}
 use Rattle.lb_split.specs.Sections.{headed, from_header, empty_script, added_by, added}
 use Rattle.lb_split.specs.declared.piece.Piece.{Piece}
 use Rattle.lb_split.specs.declared.piece.Piece.TheVariants as pieces
 use Rattle.lb_split.specs.declared.header.Header.{Header}
-use Rattle.lb_split.specs.declared.header.Kind.{Kind}
-use Rattle.lb_split.specs.declared.header.Kind.TheVariants.{Setup, Session}
+use Rattle.lb_split.specs.declared.header.SectionKind.{SectionKind}
+use Rattle.lb_split.specs.declared.header.SectionKind.TheVariants.{Setup, Session}
 use Rattle.lb_split.specs.declared.script.Script.{Script}
 use Rattle.lb_split.specs.declared.script.Section.{Section}
 
@@ -42,7 +42,7 @@ next_len (pieces.Statement from to ∷ ps) = omega (arith, next_len ps)
 next_len (pieces.Quit from to ∷ ps) = omega (arith, next_len ps)
 next_len (pieces.End ∷ ps) = omega (arith, next_len ps)
 
-joined_by : (k : Kind) (x : Section) (s t : Script) → (is_setup k ≡ true → s.setup ≡ None) → joined s (with_section k x t) ≡ joined (added_by k x s) t
+joined_by : (k : SectionKind) (x : Section) (s t : Script) → (is_setup k ≡ true → s.setup ≡ None) → joined s (with_section k x t) ≡ joined (added_by k x s) t
 joined_by Setup x s t h =
     ap (λ (o : Option Section). let j : Script = record { setup = or_some o (Some x); sessions = s.sessions ++ t.sessions } in j) (h refl)
 joined_by Session x s t h =
@@ -66,14 +66,14 @@ setup_first false first s h f e = absurd cc
 
 pub turn_joins : (bytes : List ℕ) (first : Bool) (span : ℕ × ℕ) (next : Option (ℕ × ℕ)) (h : Header) (statements : List (ℕ × ℕ)) (script : Script)
     → header_at bytes span.0 span.1 ≡ Some h → is_misplaced first (Some h) ≡ false → (first ≡ true → script.setup ≡ None)
-    → statements ≡ statements_in (pieces_from bytes (resumed bytes (pieces.Header span.0 span.1)))
+    → statements ≡ section_statements (pieces_from bytes (resumed bytes (pieces.Header span.0 span.1)))
     → from_header (pieces_from bytes (resumed bytes (pieces.Header span.0 span.1))) ≡ headed bytes next
     → joined script (script_in bytes (headed bytes (Some span))) ≡ joined (added script h statements) (script_in bytes (headed bytes next))
 turn_joins bytes first span next h statements script said right fresh es e =
     let rest : List Piece = pieces_from bytes (resumed bytes (pieces.Header span.0 span.1)) in
     let tail : script_in bytes (pieces_from bytes (resumed bytes (pieces.Header span.0 span.1))) ≡ script_in bytes (headed bytes next) =
     sym (script_next bytes (pieces_from bytes (resumed bytes (pieces.Header span.0 span.1)))) ∙ ap (script_in bytes) e in
-    ap (λ (o : Option Header). joined script (with_header o (statements_in (pieces_from bytes (resumed bytes (pieces.Header span.0 span.1)))) (script_in bytes (pieces_from bytes (resumed bytes (pieces.Header span.0 span.1)))))) said
+    ap (λ (o : Option Header). joined script (with_header o (section_statements (pieces_from bytes (resumed bytes (pieces.Header span.0 span.1)))) (script_in bytes (pieces_from bytes (resumed bytes (pieces.Header span.0 span.1)))))) said
     ∙ ap (λ (st : List (ℕ × ℕ)). joined script (with_header (Some h) st (script_in bytes (pieces_from bytes (resumed bytes (pieces.Header span.0 span.1)))))) (sym es)
     ∙ ap (λ (t : Script). joined script (with_header (Some h) statements t)) tail
     ∙ joined_by h.kind (section_by h statements) script (script_in bytes (headed bytes next)) (setup_first (is_setup h.kind) first script.setup right fresh)

@@ -3,8 +3,8 @@ use Rattle.std.specs.Prelude.{ℕ, ◌==◌, ◌&&◌, ◌||◌, Bool, true, fal
 use Rattle.std.specs.List.{slice_split}
 use Rattle.std.specs.Str.{bytes_eq}
 use Rattle.lb_base.specs.Names.{folded, name_of}
-use Rattle.lb_split.specs.declared.header.Kind.{Kind}
-use Rattle.lb_split.specs.declared.header.Kind.TheVariants.{Setup, Session}
+use Rattle.lb_split.specs.declared.header.SectionKind.{SectionKind}
+use Rattle.lb_split.specs.declared.header.SectionKind.TheVariants.{Setup, Session}
 use Rattle.lb_split.specs.declared.header.Header.{Header}
 
 -- a space or a tab
@@ -23,12 +23,12 @@ words line = filter is_some_text (slice_split is_space line)
 abbrev pub spells : List ℕ → List ℕ → Bool
 spells want word = bytes_eq (folded word) want
 
-abbrev pub is_setup : Kind → Bool
+abbrev pub is_setup : SectionKind → Bool
 is_setup Setup = true
 is_setup Session = false
 
 -- the first word says of which kind the section is
-abbrev pub kind_of : List ℕ → Option Kind
+abbrev pub kind_of : List ℕ → Option SectionKind
 kind_of word = if spells (codes "@SETUP") word then Some Setup else if spells (codes "@SESSION") word then Some Session else None
 
 abbrev pub with_name : Option (List ℕ) → Option (List (List ℕ)) → Option (List (List ℕ))
@@ -50,7 +50,7 @@ abbrev pub groups_of : List (List ℕ) → Option (List (List ℕ))
 groups_of [] = Some []
 groups_of (w ∷ ws) = if spells (codes "GROUPS") w then some_names ws else None
 
-abbrev pub made : Option Kind → Option (List ℕ) → Option (List (List ℕ)) → Option Header
+abbrev pub made : Option SectionKind → Option (List ℕ) → Option (List (List ℕ)) → Option Header
 made None user groups = None
 made (Some k) None groups = None
 made (Some k) (Some u) None = None

@@ -1,10 +1,10 @@
 -- The pieces of a script, each with the offset of its first byte and the offset behind its last one.
-use Rattle.std.specs.Prelude.{ℕ, zero, suc, ◌+◌, ◌-◌, ◌≤◌, ◌<◌, ⊤, List, [], ◌∷◌, length, take, drop, Option, Some, None, min, if◌then◌else◌}
+use Rattle.std.specs.Prelude.{ℕ, zero, suc, ◌≡◌, ◌+◌, ◌-◌, ◌≤◌, ◌<◌, ⊤, List, [], ◌∷◌, length, take, drop, Option, Some, None, min, if◌then◌else◌}
 use Rattle.lb_split.specs.Lexing.{begins, gap_len, statement_len, is_blank, white_len, is_quit, line_len, next_line, next_header_line}
 use Rattle.lb_split.specs.declared.piece.Piece.{Piece}
 use Rattle.lb_split.specs.declared.piece.Piece.TheVariants as pieces
-use Rattle.lb_split.specs.declared.scan.Opening.{Opening}
-use Rattle.lb_split.specs.declared.scan.Opening.TheVariants as openings
+use Rattle.lb_split.specs.declared.scan.PieceKind.{PieceKind}
+use Rattle.lb_split.specs.declared.scan.PieceKind.TheVariants as piece_kinds
 
 -- the bytes of the statement that a text begins with, without its `;`
 abbrev pub statement_of : List ℕ → List ℕ
@@ -12,28 +12,28 @@ statement_of text = take (statement_len text) text
 
 -- What begins at the start of a statement: behind white space and comments a `@` begins a header line;
 -- else it is a statement, blank or QUIT or another one.
-abbrev pub opening : List ℕ → Opening
-opening text =
-    if begins 64 (drop (gap_len text) text) then openings.Header
-    else if is_blank (statement_of text) then openings.Blank
-    else if is_quit (statement_of text) then openings.Quit
-    else openings.Statement
+abbrev pub piece_kind : List ℕ → PieceKind
+piece_kind text =
+    if begins 64 (drop (gap_len text) text) then piece_kinds.Header
+    else if is_blank (statement_of text) then piece_kinds.Blank
+    else if is_quit (statement_of text) then piece_kinds.Quit
+    else piece_kinds.Statement
 
 -- Its piece, where the text stands at this offset. A header goes from its `@` to the line's end, a statement
 -- from its first byte that isn't white space to its `;` or the end; a blank statement is no piece.
-abbrev pub piece_at : Opening → ℕ → List ℕ → Option Piece
-piece_at openings.Header at text = Some (pieces.Header (at + gap_len text) (at + gap_len text + line_len (drop (gap_len text) text)))
-piece_at openings.Blank at text = None
-piece_at openings.Quit at text = Some (pieces.Quit (at + white_len text) (at + statement_len text))
-piece_at openings.Statement at text = Some (pieces.Statement (at + white_len text) (at + statement_len text))
+abbrev pub piece_at : PieceKind → ℕ → List ℕ → Option Piece
+piece_at piece_kinds.Header at text = Some (pieces.Header (at + gap_len text) (at + gap_len text + line_len (drop (gap_len text) text)))
+piece_at piece_kinds.Blank at text = None
+piece_at piece_kinds.Quit at text = Some (pieces.Quit (at + white_len text) (at + statement_len text))
+piece_at piece_kinds.Statement at text = Some (pieces.Statement (at + white_len text) (at + statement_len text))
 
 -- How many bytes stand before what comes next: a header takes its line feed too, a statement its `;`,
 -- and QUIT all up to the next line that begins with `@`.
-abbrev pub taken : Opening → List ℕ → ℕ
-taken openings.Header text = gap_len text + next_line (drop (gap_len text) text)
-taken openings.Blank text = statement_len text + 1
-taken openings.Quit text = statement_len text + next_header_line (drop (statement_len text) text)
-taken openings.Statement text = statement_len text + 1
+abbrev pub taken : PieceKind → List ℕ → ℕ
+taken piece_kinds.Header text = gap_len text + next_line (drop (gap_len text) text)
+taken piece_kinds.Blank text = statement_len text + 1
+taken piece_kinds.Quit text = statement_len text + next_header_line (drop (statement_len text) text)
+taken piece_kinds.Statement text = statement_len text + 1
 
 abbrev pub with_some : Option Piece → List Piece → List Piece
 with_some None ps = ps
@@ -43,7 +43,7 @@ with_some (Some p) ps = p ∷ ps
 -- then one piece comes after the other.
 abbrev pub pieces_in : List ℕ → ℕ → ℕ → List Piece
 pieces_in [] at skip = []
-pieces_in (b ∷ bs) at zero = with_some (piece_at (opening (b ∷ bs)) at (b ∷ bs)) (pieces_in bs (at + 1) (taken (opening (b ∷ bs)) (b ∷ bs) - 1))
+pieces_in (b ∷ bs) at zero = with_some (piece_at (piece_kind (b ∷ bs)) at (b ∷ bs)) (pieces_in bs (at + 1) (taken (piece_kind (b ∷ bs)) (b ∷ bs) - 1))
 pieces_in (b ∷ bs) at (suc skip) = pieces_in bs (at + 1) skip
 
 -- the pieces of a script from this offset on, at which a statement starts
@@ -91,3 +91,18 @@ IsWithin bytes (pieces.Header from to) = IsSpan bytes from to
 IsWithin bytes (pieces.Statement from to) = IsSpan bytes from to
 IsWithin bytes (pieces.Quit from to) = IsSpan bytes from to
 IsWithin bytes pieces.End = ⊤
+
+-- the piece has ended: the `;` or the line's end that ends it stands in the bytes
+abbrev pub HasEnded : List ℕ → Piece → Type 0
+HasEnded bytes (pieces.Header from to) = to < length bytes
+HasEnded bytes (pieces.Statement from to) = to < length bytes
+HasEnded bytes (pieces.Quit from to) = to < length bytes
+HasEnded bytes pieces.End = ⊥
+
+-- what comes after the piece starts at the same offset in both inputs; of QUIT nothing is said, since all up to a line that begins with `@`
+-- is passed over
+abbrev pub GoesOnThere : List ℕ → List ℕ → Piece → Type 0
+GoesOnThere bytes longer (pieces.Header from to) = resumed longer (pieces.Header from to) ≡ resumed bytes (pieces.Header from to)
+GoesOnThere bytes longer (pieces.Statement from to) = resumed longer (pieces.Statement from to) ≡ resumed bytes (pieces.Statement from to)
+GoesOnThere bytes longer (pieces.Quit from to) = ⊤
+GoesOnThere bytes longer pieces.End = ⊤

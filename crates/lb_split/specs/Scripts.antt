@@ -5,8 +5,8 @@ use Rattle.lb_split.specs.Headers.{header_of, is_setup}
 use Rattle.lb_split.specs.declared.piece.Piece.{Piece}
 use Rattle.lb_split.specs.declared.piece.Piece.TheVariants as pieces
 use Rattle.lb_split.specs.declared.header.Header.{Header}
-use Rattle.lb_split.specs.declared.header.Kind.{Kind}
-use Rattle.lb_split.specs.declared.header.Kind.TheVariants.{Setup, Session}
+use Rattle.lb_split.specs.declared.header.SectionKind.{SectionKind}
+use Rattle.lb_split.specs.declared.header.SectionKind.TheVariants.{Setup, Session}
 use Rattle.lb_split.specs.declared.script.Script.{Script}
 use Rattle.lb_split.specs.declared.script.Section.{Section}
 use Rattle.lb_split.specs.declared.script.ScriptFault.{ScriptFault}
@@ -43,15 +43,15 @@ abbrev pub text_in : List ℕ → ℕ × ℕ → List ℕ
 text_in bytes span = slice_range bytes span.0 span.1
 
 -- the statements before the next header, each as the offsets of its first byte and behind its last one
-abbrev pub statements_in : List Piece → List (ℕ × ℕ)
-statements_in [] = []
-statements_in (pieces.Header from to ∷ ps) = []
-statements_in (pieces.Statement from to ∷ ps) = (from, to) ∷ statements_in ps
-statements_in (pieces.Quit from to ∷ ps) = statements_in ps
-statements_in (pieces.End ∷ ps) = statements_in ps
+abbrev pub section_statements : List Piece → List (ℕ × ℕ)
+section_statements [] = []
+section_statements (pieces.Header from to ∷ ps) = []
+section_statements (pieces.Statement from to ∷ ps) = (from, to) ∷ section_statements ps
+section_statements (pieces.Quit from to ∷ ps) = section_statements ps
+section_statements (pieces.End ∷ ps) = section_statements ps
 
 -- a section before those of a script
-abbrev pub with_section : Kind → Section → Script → Script
+abbrev pub with_section : SectionKind → Section → Script → Script
 with_section Setup section script = record { setup = Some section; sessions = script.sessions }
 with_section Session section script = record { setup = script.setup; sessions = section ∷ script.sessions }
 
@@ -65,7 +65,7 @@ with_header (Some header) statements script = with_section header.kind (section_
 -- the sections that the pieces make, one for each header
 abbrev pub script_in : List ℕ → List Piece → Script
 script_in bytes [] = record { setup = None; sessions = [] }
-script_in bytes (pieces.Header from to ∷ ps) = with_header (header_at bytes from to) (statements_in ps) (script_in bytes ps)
+script_in bytes (pieces.Header from to ∷ ps) = with_header (header_at bytes from to) (section_statements ps) (script_in bytes ps)
 script_in bytes (pieces.Statement from to ∷ ps) = script_in bytes ps
 script_in bytes (pieces.Quit from to ∷ ps) = script_in bytes ps
 script_in bytes (pieces.End ∷ ps) = script_in bytes ps

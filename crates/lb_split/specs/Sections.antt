@@ -5,8 +5,8 @@ use Rattle.lb_split.specs.Scripts.{is_misplaced, line_of, section_by}
 use Rattle.lb_split.specs.declared.piece.Piece.{Piece}
 use Rattle.lb_split.specs.declared.piece.Piece.TheVariants as pieces
 use Rattle.lb_split.specs.declared.header.Header.{Header}
-use Rattle.lb_split.specs.declared.header.Kind.{Kind}
-use Rattle.lb_split.specs.declared.header.Kind.TheVariants.{Setup, Session}
+use Rattle.lb_split.specs.declared.header.SectionKind.{SectionKind}
+use Rattle.lb_split.specs.declared.header.SectionKind.TheVariants.{Setup, Session}
 use Rattle.lb_split.specs.declared.script.Script.{Script}
 use Rattle.lb_split.specs.declared.script.Section.{Section}
 use Rattle.lb_split.specs.declared.script.ScriptFault.{ScriptFault}
@@ -34,7 +34,7 @@ abbrev pub empty_script : Script
 empty_script = record { setup = None; sessions = [] }
 
 -- a script with one section more behind its others
-abbrev pub added_by : Kind → Section → Script → Script
+abbrev pub added_by : SectionKind → Section → Script → Script
 added_by Setup section script = record { setup = Some section; sessions = script.sessions }
 added_by Session section script = record { setup = script.setup; sessions = script.sessions ++ section ∷ [] }
 

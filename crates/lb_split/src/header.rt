@@ -14,7 +14,7 @@ const MOST_GROUPS: usize = 16;
 
 /// The kind of a section.
 #[derive(Clone, Copy, Debug, PartialEq, Eq)]
-pub enum Kind {
+pub enum SectionKind {
     /// The section that comes before all others and is run alone.
     Setup,
     /// A session's section.
@@ -25,7 +25,7 @@ pub enum Kind {
 #[derive(Drop)]
 pub struct Header {
     /// The kind of the section that follows.
-    pub kind: Kind,
+    pub kind: SectionKind,
     /// The user who runs it.
     pub user: Name,
     /// The user's groups, as written, at most 16.
@@ -45,7 +45,7 @@ impl Header {
         let Some(user) = words.next() else {
             return Ok(None);
         };
-        let Some(kind) = Kind::of(kind) else {
+        let Some(kind) = SectionKind::of(kind) else {
             return Ok(None);
         };
         let Some(user) = name(alloc, user)? else {
@@ -58,25 +58,25 @@ impl Header {
     }
 }
 
-impl Kind {
+impl SectionKind {
     /// Whether it is the kind that comes before all others.
     pub fn is_setup(self) -> bool
         ensures { result ≡ setup_kind self }
     {
         match self {
-            Kind::Setup => true,
-            Kind::Session => false,
+            SectionKind::Setup => true,
+            SectionKind::Session => false,
         }
     }
 
     /// The kind that a header's first word says, in any case.
-    fn of(word: &[u8]) -> Option<Kind>
+    fn of(word: &[u8]) -> Option<SectionKind>
         ensures { result ≡ kind_of word.now }
     {
         if spells(word, b"@SETUP") {
-            Some(Kind::Setup)
+            Some(SectionKind::Setup)
         } else if spells(word, b"@SESSION") {
-            Some(Kind::Session)
+            Some(SectionKind::Session)
         } else {
             None
         }

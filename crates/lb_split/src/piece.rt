@@ -1,9 +1,9 @@
 // The pieces of a script, one after the other.
 ghost use Rattle.std.specs.Prelude.{◌≡◌, ◌<◌, ◌≤◌, ◌+◌, ◌^◌, IfSome, length};
-ghost use Rattle.lb_split.specs.Pieces.{opening as opening_of, piece_at, pieces_from, first_of, before, resumed, start_of, IsWithin};
+ghost use Rattle.lb_split.specs.Pieces.{piece_kind as piece_kind_of, piece_at, pieces_from, first_of, before, resumed, start_of, IsWithin};
 
 use crate::scan::{
-    Opening, gap_len, line_len, next_header_line, next_line, statement_len, tail, white_len,
+    PieceKind, gap_len, line_len, next_header_line, next_line, statement_len, tail, white_len,
 };
 
 /// A piece of a script. Its first number is the offset of its first byte, its second one the offset behind its last
@@ -44,21 +44,21 @@ pub fn split(bytes: &[u8], from: u32) -> Piece
 /// The piece that a text begins with, where the text stands at this offset. None where a blank statement stands there.
 fn first_piece(text: &[u8], at: u32) -> Option<Piece>
     requires { at + length text.now < 2 ^ 32 }
-    ensures { result ≡ piece_at (opening_of text.now) at text.now }
+    ensures { result ≡ piece_at (piece_kind_of text.now) at text.now }
 {
-    match Opening::of(text) {
-        Opening::Header => {
+    match PieceKind::of(text) {
+        PieceKind::Header => {
             let gap = gap_len(text);
             let len = line_len(tail(text, gap));
             Some(Piece::Header(at + gap as u32, at + gap as u32 + len as u32))
         }
-        Opening::Blank => None,
-        Opening::Quit => {
+        PieceKind::Blank => None,
+        PieceKind::Quit => {
             let white = white_len(text);
             let len = statement_len(text);
             Some(Piece::Quit(at + white as u32, at + len as u32))
         }
-        Opening::Statement => {
+        PieceKind::Statement => {
             let white = white_len(text);
             let len = statement_len(text);
             Some(Piece::Statement(at + white as u32, at + len as u32))

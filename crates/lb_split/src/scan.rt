@@ -1,7 +1,7 @@
 // White space, comments and texts between quotes, and how far each goes.
 ghost use Rattle.std.specs.Prelude.{◌≡◌, ◌≤◌, ◌==◌, ◌&&◌, ◌||◌, drop, length, take};
 ghost use Rattle.lb_split.specs.Lexing.{is_white as white, begins, behind as place_behind, is_gap as gap, is_inside as inside, gap_len as gap_of, statement_len as statement_length, is_blank as blank, white_len as white_of, is_quit as quits, line_len as line_of, next_line as to_next_line, next_header_line as to_next_header};
-ghost use Rattle.lb_split.specs.Pieces.{opening as opening_of};
+ghost use Rattle.lb_split.specs.Pieces.{piece_kind as piece_kind_of};
 
 /// Where the reading of a script is.
 #[derive(Clone, Copy)]
@@ -164,7 +164,7 @@ fn is_quit(text: &[u8]) -> bool
 
 /// What begins at the start of a statement.
 #[derive(Clone, Copy)]
-pub enum Opening {
+pub enum PieceKind {
     /// A header line, behind white space and comments.
     Header,
     /// A statement of white space and comments alone.
@@ -175,23 +175,23 @@ pub enum Opening {
     Statement,
 }
 
-impl Opening {
+impl PieceKind {
     /// What the text begins with.
-    pub fn of(text: &[u8]) -> Opening
-        ensures { result ≡ opening_of text.now }
+    pub fn of(text: &[u8]) -> PieceKind
+        ensures { result ≡ piece_kind_of text.now }
     {
         let gap = gap_len(text);
         if begins_with(tail(text, gap), b'@') {
-            return Opening::Header;
+            return PieceKind::Header;
         }
         let len = statement_len(text);
         let statement = front(text, len);
         if is_blank(statement) {
-            Opening::Blank
+            PieceKind::Blank
         } else if is_quit(statement) {
-            Opening::Quit
+            PieceKind::Quit
         } else {
-            Opening::Statement
+            PieceKind::Statement
         }
     }
 }

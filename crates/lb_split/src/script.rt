@@ -3,9 +3,9 @@ ghost use Rattle.std.specs.Prelude.{◌≡◌, ◌<◌, ◌≤◌, ◌^◌, ◌�
 ghost use Rattle.lb_split.specs.declared.script.ScriptFault.TheVariants as faults;
 ghost use Rattle.lb_split.specs.Pieces.{IsSpan, pieces_from};
 ghost use Rattle.lb_split.specs.Sections.{HeaderAnswers, IsNextWithin, added, empty_script, from_header, headed};
-ghost use Rattle.lb_split.specs.Scripts.{Answers, script_of, script_by, header_at as header_in, text_in, statements_in, line_of};
+ghost use Rattle.lb_split.specs.Scripts.{Answers, script_of, script_by, header_at as header_in, text_in, section_statements, line_of};
 
-use crate::header::{Header, Kind};
+use crate::header::{Header, SectionKind};
 use crate::piece::{Piece, resume, split};
 use lb_base::{Listing, Name, Names, NoMemory};
 use std::alloc::{AllocError, Global};
@@ -139,7 +139,7 @@ struct Body {
 fn statements(alloc: Global, bytes: &[u8], from: u32) -> Result<Body, NoMemory>
     requires short { length bytes.now < 2 ^ 32 }
     requires within { from ≤ length bytes.now }
-    ensures statements { IfOk result (λ b. b.statements ≡ statements_in (pieces_from bytes.now from)) }
+    ensures statements { IfOk result (λ b. b.statements ≡ section_statements (pieces_from bytes.now from)) }
     ensures next { IfOk result (λ b. from_header (pieces_from bytes.now from) ≡ headed bytes.now b.next) }
     ensures within { IfOk result (λ b. IsNextWithin bytes.now b.next) }
 {
@@ -193,11 +193,11 @@ impl Script {
             statements,
         };
         match kind {
-            Kind::Setup => Ok(Script {
+            SectionKind::Setup => Ok(Script {
                 setup: Some(section),
                 sessions,
             }),
-            Kind::Session => {
+            SectionKind::Session => {
                 sessions.push(section)?;
                 Ok(Script { setup, sessions })
             }

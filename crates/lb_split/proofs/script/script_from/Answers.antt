@@ -1,6 +1,6 @@
 use Rattle.std.proofs.Common.{◌≡◌, ℕ, ◌<◌, Option, Some, length, sym, ap, subst, ◌∙◌}
 use Rattle.lb_split.specs.Pieces.{pieces_from, resumed}
-use Rattle.lb_split.specs.Scripts.{breaking, script_in, statements_in}
+use Rattle.lb_split.specs.Scripts.{breaking, script_in, section_statements}
 use Rattle.lb_split.specs.Sections.{from_header, headed}
 use Rattle.lb_split.specs.declared.piece.Piece.TheVariants as pieces
 use Rattle.lb_split.specs.declared.script.Script.{Script}
@@ -20,8 +20,8 @@ sections-preserved c =
     let here : c.sections.next ≡ Some c.in-Some.span = cc in
     let next : from_header (pieces_from c.args.bytes.now (resumed c.args.bytes.now (pieces.Header c.in-Some.span.0 c.in-Some.span.1))) ≡ headed c.args.bytes.now c.in_ok-body.body.next =
     subst (λ (n : ℕ). from_header (pieces_from c.args.bytes.now n) ≡ headed c.args.bytes.now c.in_ok-body.body.next) c.resume-from.ensures.value c.in_ok-body.ensures.next in
-    let statements : c.in_ok-body.body.statements ≡ statements_in (pieces_from c.args.bytes.now (resumed c.args.bytes.now (pieces.Header c.in-Some.span.0 c.in-Some.span.1))) =
-    c.in_ok-body.ensures.statements ∙ ap (λ (n : ℕ). statements_in (pieces_from c.args.bytes.now n)) c.resume-from.ensures.value in
+    let statements : c.in_ok-body.body.statements ≡ section_statements (pieces_from c.args.bytes.now (resumed c.args.bytes.now (pieces.Header c.in-Some.span.0 c.in-Some.span.1))) =
+    c.in_ok-body.ensures.statements ∙ ap (λ (n : ℕ). section_statements (pieces_from c.args.bytes.now n)) c.resume-from.ensures.value in
     record {
       breaks = c.sections.invariant.breaks
           ∙ ap (λ (o : Option (ℕ × ℕ)). breaking c.args.bytes.now c.sections.is_first (headed c.args.bytes.now o)) here
