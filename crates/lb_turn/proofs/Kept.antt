@@ -75,7 +75,7 @@ module _ {S N : Type 0} (history : S → List N) (root : List N → ℕ → ℕ)
       let short : length h.log ≤ length v.known.seen = dite (dec_le (length h.log) (length v.known.seen))
       (λ le. le)
       (λ more. let low = was.known.below (length v.known.seen) (mine (length v.known.seen) (lt_of_not-le more)) in absurd (omega arith)) in
-      (prefix_same v.known.seen h.log was.known.seen short, λ place. (mine place, below_log root h.log v.known was.known place))
+      record { seen = prefix_same v.known.seen h.log was.known.seen short; own = λ place. (mine place, below_log root h.log v.known was.known place) }
 
   pub draws : (id : ℕ) (me : Me (Option S) (View N)) → me.0.role ≡ Idle → 0 < me.0.parts → Allows Rule 1 id me 0 (λ n. (n + 1) % 2 ^ 64) (Draws (step 1 0 1 0 none) me)
   draws id me idle some_part s h homes at fits =

@@ -39,8 +39,9 @@ module _ {N : Type 0} where
   IsWithin k = (place : ℕ) → Contains k.own place → place < length k.seen
 
   -- The history is what was seen, and the own places are all its places.
-  abbrev pub IsWhole : Known N → List N → Type 0
-  IsWhole k log = (log ≡ k.seen) × ((place : ℕ) → place < length log ↔ Contains k.own place)
+  pub record IsWhole (k : Known N) (log : List N) : Type 0 where
+    pub seen : log ≡ k.seen
+    pub own : (place : ℕ) → place < length log ↔ Contains k.own place
 
 module _ {N : Type 0} (root : List N → ℕ → ℕ) where
   -- It is true of the history: the seen list is a beginning of it, the own places lie in that list, and a place of the history is an own one exactly where its root is.
