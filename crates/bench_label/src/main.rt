@@ -5,13 +5,13 @@
 ghost use Rattle.lb_label.specs.Label.{IsLabel};
 
 use anyhow::{Context, Result};
-use lb_label::{Component, Exempt, Kind, Shape, read_fail, read_text};
+use lb_label::{Component, ComponentKind, Exempt, Shape, read_fail, read_text};
 use std::alloc::Global;
 use std::env;
 use std::sync::Arc;
 
 fn level(alloc: Global) -> Result<Component> {
-    let mut level = Component::empty(alloc, Kind::Array);
+    let mut level = Component::empty(alloc, ComponentKind::Array);
     level.add("TOP", None)?;
     level.add("MID", None)?;
     level.add("LOW", None)?;
@@ -19,7 +19,7 @@ fn level(alloc: Global) -> Result<Component> {
 }
 
 fn dept(alloc: Global) -> Result<Component> {
-    let mut dept = Component::empty(alloc, Kind::Set);
+    let mut dept = Component::empty(alloc, ComponentKind::Set);
     dept.add("HR", None)?;
     dept.add("IT", None)?;
     dept.add("FIN", None)?;
@@ -27,7 +27,7 @@ fn dept(alloc: Global) -> Result<Component> {
 }
 
 fn region(alloc: Global) -> Result<Component> {
-    let mut region = Component::empty(alloc, Kind::Tree);
+    let mut region = Component::empty(alloc, ComponentKind::Tree);
     region.add("ALL", None)?;
     region.add("EU", Some("ALL"))?;
     region.add("FR", Some("EU"))?;

@@ -2,7 +2,7 @@
 ghost use Rattle.std.specs.Prelude.{◌≡◌};
 ghost use Rattle.lb_model.specs.Out.{flaw_text, limit_text, mark_text, reason_name, right_text, rule_text, verb_text};
 
-use lb_label::Rule;
+use lb_base::Rule;
 use lb_model::{Flaw, LimitOf, Mark, Refusal, Right, Verb};
 
 /// The mark of a plan, or `-`.

@@ -3,8 +3,8 @@ use Rattle.std.specs.Prelude.{ℕ, List, [], ◌∷◌, ◌++◌, codes, flat_ma
 use Rattle.std.specs.Fmt.{decimal, signed_decimal}
 use Rattle.lb_base.specs.declared.value.Value.{Value}
 use Rattle.lb_base.specs.declared.value.Value.TheVariants as values
-use Rattle.lb_label.specs.declared.rule.Rule.{Rule}
-use Rattle.lb_label.specs.declared.rule.Rule.TheVariants as rules
+use Rattle.lb_base.specs.declared.rule.Rule.{Rule}
+use Rattle.lb_base.specs.declared.rule.Rule.TheVariants as rules
 use Rattle.lb_tok.specs.Dates.{date_text}
 use Rattle.lb_tok.specs.Spacing.{quoted}
 use Rattle.lb_model.specs.declared.reply.Answer.{Answer}

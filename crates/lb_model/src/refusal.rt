@@ -2,8 +2,7 @@
 ghost use Rattle.std.specs.Prelude.{◌≡◌};
 ghost use Rattle.lb_model.specs.Numbers.{refusal_number};
 
-use lb_base::{Names, Str};
-use lb_label::Rule;
+use lb_base::{Names, Rule, Str};
 
 /// A right on a table that a session lacks.
 #[derive(Clone, Copy, Debug, PartialEq, Eq)]

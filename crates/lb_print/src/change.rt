@@ -54,7 +54,7 @@ pub fn change(page: &mut Page, change: &Change) -> Result<(), NoMemory>
         Change::RevokeRole(role, user) => revoke_role(page, role, user),
         Change::GrantSecadm(user) => grant_secadm(page, user),
         Change::RevokeSecadm(user) => revoke_secadm(page, user),
-        Change::GrantRights(list, table, grantee) => grant_rights(page, list, table, grantee),
-        Change::RevokeRights(list, table, grantee) => revoke_rights(page, list, table, grantee),
+        Change::GrantPrivileges(list, table, grantee) => grant_rights(page, list, table, grantee),
+        Change::RevokePrivileges(list, table, grantee) => revoke_rights(page, list, table, grantee),
     }
 }

@@ -8,9 +8,9 @@ ghost use Rattle.lb_tok.specs.Spacing.{laid};
 
 use crate::keyword::{labelled, named, to_user, with_user, words};
 use crate::word::{access, right};
-use lb_base::{Name, NoMemory};
+use lb_base::{Name, NoMemory, Rule};
 use lb_page::{Page, separator};
-use lb_stmt::{Access, Change, Grantee, LabelName, RuleName, TableRight};
+use lb_stmt::{Access, Change, Exempted, Grantee, LabelName, Privilege};
 use lb_tok::Kind;
 use sqlite_items::Items;
 
@@ -44,22 +44,22 @@ pub fn revoke_label(page: &mut Page, label: &LabelName, user: &Name) -> Result<(
     with_user(page, &[Kind::From], user)
 }
 
-fn rule(page: &mut Page, rule: RuleName) -> Result<(), NoMemory>
+fn rule(page: &mut Page, rule: Exempted) -> Result<(), NoMemory>
     ensures { OnOk result (page.new ≡ laid page.old (rule_pieces rule)) }
 {
     match rule {
-        RuleName::ReadArray => page.mark(Kind::Db2LbacReadArray),
-        RuleName::ReadSet => page.mark(Kind::Db2LbacReadSet),
-        RuleName::ReadTree => page.mark(Kind::Db2LbacReadTree),
-        RuleName::WriteArrayDown => words(page, &[Kind::Db2LbacWriteArray, Kind::WriteDown]),
-        RuleName::WriteArrayUp => words(page, &[Kind::Db2LbacWriteArray, Kind::WriteUp]),
-        RuleName::WriteSet => page.mark(Kind::Db2LbacWriteSet),
-        RuleName::WriteTree => page.mark(Kind::Db2LbacWriteTree),
-        RuleName::All => page.mark(Kind::All),
+        Exempted::Rule(Rule::ReadArray) => page.mark(Kind::Db2LbacReadArray),
+        Exempted::Rule(Rule::ReadSet) => page.mark(Kind::Db2LbacReadSet),
+        Exempted::Rule(Rule::ReadTree) => page.mark(Kind::Db2LbacReadTree),
+        Exempted::Rule(Rule::WriteDown) => words(page, &[Kind::Db2LbacWriteArray, Kind::WriteDown]),
+        Exempted::Rule(Rule::WriteUp) => words(page, &[Kind::Db2LbacWriteArray, Kind::WriteUp]),
+        Exempted::Rule(Rule::WriteSet) => page.mark(Kind::Db2LbacWriteSet),
+        Exempted::Rule(Rule::WriteTree) => page.mark(Kind::Db2LbacWriteTree),
+        Exempted::All => page.mark(Kind::All),
     }
 }
 
-fn exemption(page: &mut Page, of: RuleName, policy: &Name) -> Result<(), NoMemory>
+fn exemption(page: &mut Page, of: Exempted, policy: &Name) -> Result<(), NoMemory>
     ensures { OnOk result (page.new ≡ laid page.old (exemption_pieces of policy.now)) }
 {
     words(page, &[Kind::Exemption, Kind::On, Kind::Rule])?;
@@ -70,7 +70,7 @@ fn exemption(page: &mut Page, of: RuleName, policy: &Name) -> Result<(), NoMemor
 /// Lays GRANT EXEMPTION.
 pub fn grant_exemption(
     page: &mut Page,
-    of: RuleName,
+    of: Exempted,
     policy: &Name,
     user: &Name,
 ) -> Result<(), NoMemory>
@@ -84,7 +84,7 @@ pub fn grant_exemption(
 /// Lays REVOKE EXEMPTION.
 pub fn revoke_exemption(
     page: &mut Page,
-    of: RuleName,
+    of: Exempted,
     policy: &Name,
     user: &Name,
 ) -> Result<(), NoMemory>
@@ -130,7 +130,7 @@ pub fn revoke_secadm(page: &mut Page, user: &Name) -> Result<(), NoMemory>
     with_user(page, &[Kind::From], user)
 }
 
-fn rights(page: &mut Page, list: &[TableRight]) -> Result<(), NoMemory>
+fn rights(page: &mut Page, list: &[Privilege]) -> Result<(), NoMemory>
     ensures { OnOk result (page.new ≡ laid page.old (listed (map right_pieces list.now))) }
 {
     for (place, part) in list.iter().enumerate() {
@@ -140,7 +140,7 @@ fn rights(page: &mut Page, list: &[TableRight]) -> Result<(), NoMemory>
     Ok(())
 }
 
-fn rights_on(page: &mut Page, list: &[TableRight], table: &Name) -> Result<(), NoMemory>
+fn rights_on(page: &mut Page, list: &[Privilege], table: &Name) -> Result<(), NoMemory>
     ensures { OnOk result (page.new ≡ laid page.old (rights_pieces list.now table.now)) }
 {
     rights(page, list)?;
@@ -159,11 +159,11 @@ fn to_grantee(page: &mut Page, grantee: &Grantee) -> Result<(), NoMemory>
 /// Lays GRANT of privileges on a table.
 pub fn grant_rights(
     page: &mut Page,
-    list: &Items<TableRight>,
+    list: &Items<Privilege>,
     table: &Name,
     grantee: &Grantee,
 ) -> Result<(), NoMemory>
-    ensures { OnOk result (page.new ≡ laid page.old (change_pieces (Change.GrantRights list.now table.now grantee.now))) }
+    ensures { OnOk result (page.new ≡ laid page.old (change_pieces (Change.GrantPrivileges list.now table.now grantee.now))) }
 {
     page.mark(Kind::Grant)?;
     rights_on(page, list.as_slice(), table)?;
@@ -174,11 +174,11 @@ pub fn grant_rights(
 /// Lays REVOKE of privileges on a table.
 pub fn revoke_rights(
     page: &mut Page,
-    list: &Items<TableRight>,
+    list: &Items<Privilege>,
     table: &Name,
     grantee: &Grantee,
 ) -> Result<(), NoMemory>
-    ensures { OnOk result (page.new ≡ laid page.old (change_pieces (Change.RevokeRights list.now table.now grantee.now))) }
+    ensures { OnOk result (page.new ≡ laid page.old (change_pieces (Change.RevokePrivileges list.now table.now grantee.now))) }
 {
     page.mark(Kind::Revoke)?;
     rights_on(page, list.as_slice(), table)?;

@@ -3,7 +3,7 @@
 ghost use Rattle.std.specs.Prelude.{◌≡◌};
 ghost use Rattle.lb_tok.specs.ChangePieces.{switch_kind, access_kind, activate_kind, control_kind, right_kind, write_option_kind};
 
-use lb_stmt::{Access, ControlOf, Switch, TableRight, WriteOption};
+use lb_stmt::{Access, ControlOf, Privilege, Switch, WriteOption};
 use lb_tok::Kind;
 
 /// ACTIVATE or DEACTIVATE.
@@ -59,13 +59,13 @@ pub fn access(access: Access) -> Kind
 }
 
 /// The word of a privilege.
-pub fn right(right: TableRight) -> Kind
+pub fn right(right: Privilege) -> Kind
     ensures { result ≡ right_kind right }
 {
     match right {
-        TableRight::Select => Kind::Select,
-        TableRight::Insert => Kind::Insert,
-        TableRight::Update => Kind::Update,
-        TableRight::Delete => Kind::Delete,
+        Privilege::Select => Kind::Select,
+        Privilege::Insert => Kind::Insert,
+        Privilege::Update => Kind::Update,
+        Privilege::Delete => Kind::Delete,
     }
 }

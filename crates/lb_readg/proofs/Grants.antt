@@ -1,9 +1,10 @@
 -- GRANT and REVOKE.
 use Rattle.std.proofs.Common.{Bool, true, false, ◌⊎◌, inl, inr, ◌≡◌, ℕ, List, [], ◌++◌, refl, sym, ap, subst, ◌∙◌}
 use Rattle.lb_stmt.specs.declared.change.Access.TheVariants as accesses
-use Rattle.lb_stmt.specs.declared.change.RuleName.TheVariants as rules
-use Rattle.lb_stmt.specs.declared.change.TableRight.{TableRight}
-use Rattle.lb_stmt.specs.declared.change.TableRight.TheVariants as rights
+use Rattle.lb_base.specs.declared.rule.Rule.TheVariants as rules
+use Rattle.lb_stmt.specs.declared.change.Exempted.TheVariants as exempted
+use Rattle.lb_stmt.specs.declared.change.Privilege.{Privilege}
+use Rattle.lb_stmt.specs.declared.change.Privilege.TheVariants as rights
 use Rattle.lb_stmt.specs.declared.change.Grantee.{Grantee}
 use Rattle.lb_stmt.specs.declared.change.Grantee.TheVariants as grantees
 use Rattle.lb_stmt.specs.declared.change.Change.{Change}
@@ -71,13 +72,13 @@ in_rule = only kinds.Db2LbacReadArray ++ only kinds.Db2LbacReadSet ++ only kinds
 rule_reads : {b : Bool} {d : ℕ} → Reads b d rule_at IsRule false in_rule []
 unfolding rule_at down_or_up_at
 rule_reads = wide _ _ refl refl refl (
-    pick_reads (means_reads kinds.Db2LbacReadArray rules.ReadArray refl)
-    (pick_reads (means_reads kinds.Db2LbacReadSet rules.ReadSet refl)
-    (pick_reads (means_reads kinds.Db2LbacReadTree rules.ReadTree refl)
-    (pick_reads (after_reads kinds.Db2LbacWriteArray refl (pick_reads (means_reads kinds.WriteDown rules.WriteArrayDown refl) (means_reads kinds.WriteUp rules.WriteArrayUp refl) refl))
-    (pick_reads (means_reads kinds.Db2LbacWriteSet rules.WriteSet refl)
-    (pick_reads (means_reads kinds.Db2LbacWriteTree rules.WriteTree refl)
-    (means_reads kinds.All rules.All refl) refl) refl) refl) refl) refl) refl)
+    pick_reads (means_reads kinds.Db2LbacReadArray (exempted.Rule rules.ReadArray) refl)
+    (pick_reads (means_reads kinds.Db2LbacReadSet (exempted.Rule rules.ReadSet) refl)
+    (pick_reads (means_reads kinds.Db2LbacReadTree (exempted.Rule rules.ReadTree) refl)
+    (pick_reads (after_reads kinds.Db2LbacWriteArray refl (pick_reads (means_reads kinds.WriteDown (exempted.Rule rules.WriteDown) refl) (means_reads kinds.WriteUp (exempted.Rule rules.WriteUp) refl) refl))
+    (pick_reads (means_reads kinds.Db2LbacWriteSet (exempted.Rule rules.WriteSet) refl)
+    (pick_reads (means_reads kinds.Db2LbacWriteTree (exempted.Rule rules.WriteTree) refl)
+    (means_reads kinds.All exempted.All refl) refl) refl) refl) refl) refl) refl)
 
 rule_of_reads : {b : Bool} {d : ℕ} → Reads b d rule_of_at IsRuleOf false (only kinds.On) []
 unfolding rule_of_at
@@ -97,88 +98,88 @@ rights_reads = wide _ _ refl refl refl (listed_reads right_reads refl)
 -- ---- GRANT privileges
 
 -- behind TO
-abbrev Given : List TableRight → List ℕ → Lang Change
-Given rs t = Made (changes.GrantRights rs t) IsGrantee
+abbrev Given : List Privilege → List ℕ → Lang Change
+Given rs t = Made (changes.GrantPrivileges rs t) IsGrantee
 
 -- behind the table
-abbrev GrantedOn : List TableRight → List ℕ → Lang Change
+abbrev GrantedOn : List Privilege → List ℕ → Lang Change
 GrantedOn rs t = AfterNamed kinds.To (Given rs t)
 
-granted_reads : {b : Bool} {d : ℕ} (rs : List TableRight) (t : List ℕ) → Reads b d (granted_on rs t) (GrantedOn rs t) false (only kinds.To) []
+granted_reads : {b : Bool} {d : ℕ} (rs : List Privilege) (t : List ℕ) → Reads b d (granted_on rs t) (GrantedOn rs t) false (only kinds.To) []
 unfolding granted_on
-granted_reads rs t = wide _ _ refl refl refl (then_reads (named_reads kinds.To refl) (λ _. made_reads (changes.GrantRights rs t) grantee_reads) refl)
+granted_reads rs t = wide _ _ refl refl refl (then_reads (named_reads kinds.To refl) (λ _. made_reads (changes.GrantPrivileges rs t) grantee_reads) refl)
 
 -- a user is all that follows
-abbrev UserAlone : List TableRight → List ℕ → List ℕ → Lang Change
-UserAlone rs t u = Nothing (changes.GrantRights rs t (grantees.User u))
+abbrev UserAlone : List Privilege → List ℕ → List ℕ → Lang Change
+UserAlone rs t u = Nothing (changes.GrantPrivileges rs t (grantees.User u))
 
-third_reads : {b : Bool} {d : ℕ} (rs : List TableRight) (t n : List ℕ) (p : Bool × List ℕ) → Reads b d (third_on rs t n p) (Chosen (Given rs n) (UserAlone rs t) p) true in_grantee in_grantee
+third_reads : {b : Bool} {d : ℕ} (rs : List Privilege) (t n : List ℕ) (p : Bool × List ℕ) → Reads b d (third_on rs t n p) (Chosen (Given rs n) (UserAlone rs t) p) true in_grantee in_grantee
 unfolding third_on
-third_reads rs t n (true, u) = wide _ _ refl refl refl (pick_reads (made_reads (changes.GrantRights rs n) grantee_reads) (give_reads (changes.GrantRights rs t (grantees.User u))) refl)
-third_reads rs t n (false, u) = wide _ _ refl refl refl (give_reads (changes.GrantRights rs t (grantees.User u)))
+third_reads rs t n (true, u) = wide _ _ refl refl refl (pick_reads (made_reads (changes.GrantPrivileges rs n) grantee_reads) (give_reads (changes.GrantPrivileges rs t (grantees.User u))) refl)
+third_reads rs t n (false, u) = wide _ _ refl refl refl (give_reads (changes.GrantPrivileges rs t (grantees.User u)))
 
 -- behind TABLE TO
-abbrev SecondTo : List TableRight → List ℕ → List ℕ → Lang Change
-SecondTo rs t n = Either (Made (changes.GrantRights rs t) Spelt) (Ahead kinds.To (Given rs n) (UserAlone rs t))
+abbrev SecondTo : List Privilege → List ℕ → List ℕ → Lang Change
+SecondTo rs t n = Either (Made (changes.GrantPrivileges rs t) Spelt) (Ahead kinds.To (Given rs n) (UserAlone rs t))
 
-to_second : (rs : List TableRight) (t n : List ℕ) → Within (SecondTo rs t n) (Either (Given rs t) (GrantedOn rs n))
-to_second rs t n s ts x (inl p) = let m = made_of (changes.GrantRights rs t) Spelt s ts x p in inl (ts, [], m.0, to_grantee s ts m.0 m.1, (refl, m.2), sym (nil ts))
+to_second : (rs : List Privilege) (t n : List ℕ) → Within (SecondTo rs t n) (Either (Given rs t) (GrantedOn rs n))
+to_second rs t n s ts x (inl p) = let m = made_of (changes.GrantPrivileges rs t) Spelt s ts x p in inl (ts, [], m.0, to_grantee s ts m.0 m.1, (refl, m.2), sym (nil ts))
 to_second rs t n s ts x (inr (inl p)) = inr p
 to_second rs t n s ts x (inr (inr p)) = inl (ts, [], grantees.User p.2, a_user s ts p.2 (subst (λ (u : List Token). IsName s u p.2) (ends ts p.0 p.1 p.5 p.4.0) p.3), (refl, p.4.1), sym (nil ts))
 
-of_second : (rs : List TableRight) (t n : List ℕ) → Within (Either (Given rs t) (GrantedOn rs n)) (SecondTo rs t n)
+of_second : (rs : List Privilege) (t n : List ℕ) → Within (Either (Given rs t) (GrantedOn rs n)) (SecondTo rs t n)
 of_second rs t n s ts x (inr p) = inr (inl p)
-of_second rs t n s ts x (inl p) = let m = made_of (changes.GrantRights rs t) IsGrantee s ts x p in go m.0 m.2 (of_grantee s ts m.0 m.1)
+of_second rs t n s ts x (inl p) = let m = made_of (changes.GrantPrivileges rs t) IsGrantee s ts x p in go m.0 m.2 (of_grantee s ts m.0 m.1)
   where
-    go : (g : Grantee) → x ≡ changes.GrantRights rs t g → Spelt s ts g ⊎ ((n : List ℕ) × IsName s ts n × (g ≡ grantees.User n)) → SecondTo rs t n s ts x
+    go : (g : Grantee) → x ≡ changes.GrantPrivileges rs t g → Spelt s ts g ⊎ ((n : List ℕ) × IsName s ts n × (g ≡ grantees.User n)) → SecondTo rs t n s ts x
     go g e (inl q) = inl (ts, [], g, q, (refl, e), sym (nil ts))
-    go g e (inr q) = inr (inr (ts, [], q.0, q.1, (refl, e ∙ ap (λ (h : Grantee). changes.GrantRights rs t h) q.2), sym (nil ts)))
+    go g e (inr q) = inr (inr (ts, [], q.0, q.1, (refl, e ∙ ap (λ (h : Grantee). changes.GrantPrivileges rs t h) q.2), sym (nil ts)))
 
 abbrev in_second : Kinds
 in_second = in_grantee ++ only kinds.To
 
-second_to_reads : {b : Bool} {d : ℕ} (rs : List TableRight) (t n : List ℕ) → Reads b d (second_to_on rs t n) (Either (Given rs t) (GrantedOn rs n)) false in_second in_grantee
+second_to_reads : {b : Bool} {d : ℕ} (rs : List Privilege) (t n : List ℕ) → Reads b d (second_to_on rs t n) (Either (Given rs t) (GrantedOn rs n)) false in_second in_grantee
 unfolding second_to_on
-second_to_reads rs t n = wide _ _ refl refl refl (same_reads (Either (Given rs t) (GrantedOn rs n)) (to_second rs t n) (of_second rs t n) (pick_reads (made_reads (changes.GrantRights rs t) spelt_reads) (ahead_reads kinds.To (Given rs n) (UserAlone rs t) refl (third_reads rs t n) refl) refl))
+second_to_reads rs t n = wide _ _ refl refl refl (same_reads (Either (Given rs t) (GrantedOn rs n)) (to_second rs t n) (of_second rs t n) (pick_reads (made_reads (changes.GrantPrivileges rs t) spelt_reads) (ahead_reads kinds.To (Given rs n) (UserAlone rs t) refl (third_reads rs t n) refl) refl))
 
-second_reads : {b : Bool} {d : ℕ} (rs : List TableRight) (t : List ℕ) (p : Bool × List ℕ) → Reads b d (second_on rs t p) (Chosen (Given rs t) (GrantedOn rs) p) false in_second in_grantee
+second_reads : {b : Bool} {d : ℕ} (rs : List Privilege) (t : List ℕ) (p : Bool × List ℕ) → Reads b d (second_on rs t p) (Chosen (Given rs t) (GrantedOn rs) p) false in_second in_grantee
 unfolding second_on
 second_reads rs t (true, n) = second_to_reads rs t n
 second_reads rs t (false, n) = wide _ _ refl refl refl (granted_reads rs n)
 
 -- behind TABLE, which may be the table
-abbrev Second : List TableRight → List ℕ → Lang Change
+abbrev Second : List Privilege → List ℕ → Lang Change
 Second rs t = Either (Seq IsName (GrantedOn rs)) (GrantedOn rs t)
 
 swap_in : {A : Type 0} (P Q : Lang A) → Within (Either P Q) (Either Q P)
 swap_in P Q s ts x (inl p) = inr p
 swap_in P Q s ts x (inr p) = inl p
 
-first_reads : {b : Bool} {d : ℕ} (rs : List TableRight) (p : Bool × List ℕ) → Reads b d (first_on rs p) (Chosen (Seq IsName (GrantedOn rs)) (GrantedOn rs) p) false names in_grantee
+first_reads : {b : Bool} {d : ℕ} (rs : List Privilege) (p : Bool × List ℕ) → Reads b d (first_on rs p) (Chosen (Seq IsName (GrantedOn rs)) (GrantedOn rs) p) false names in_grantee
 unfolding first_on
 first_reads rs (true, t) = wide _ _ refl refl refl (same_reads (Second rs t) (swap_in (GrantedOn rs t) (Seq IsName (GrantedOn rs))) (swap_in (Seq IsName (GrantedOn rs)) (GrantedOn rs t)) (ahead_reads kinds.To (Given rs t) (GrantedOn rs) refl (second_reads rs t) refl))
 first_reads rs (false, t) = wide _ _ refl refl refl (granted_reads rs t)
 
-grant_rights_reads : {b : Bool} {d : ℕ} → Reads b d grant_rights_at (IsRightsOn changes.GrantRights (Named kinds.To)) false in_right in_grantee
+grant_rights_reads : {b : Bool} {d : ℕ} → Reads b d grant_rights_at (IsRightsOn changes.GrantPrivileges (Named kinds.To)) false in_right in_grantee
 unfolding grant_rights_at
 grant_rights_reads = wide _ _ refl refl refl (then_reads rights_reads (λ rs. after_reads kinds.On refl
     (same_reads (MayAfter kinds.Table (Seq IsName (GrantedOn rs))) (to_may kinds.Table (Seq IsName (GrantedOn rs))) (of_may kinds.Table (Seq IsName (GrantedOn rs))) (ahead_reads kinds.Table (Seq IsName (GrantedOn rs)) (GrantedOn rs) refl (first_reads rs) refl))) refl)
 
 -- ---- REVOKE privileges
 
-abbrev RevokedOn : List TableRight → List ℕ → Lang Change
-RevokedOn rs t = After kinds.From (Made (changes.RevokeRights rs t) IsGrantee)
+abbrev RevokedOn : List Privilege → List ℕ → Lang Change
+RevokedOn rs t = After kinds.From (Made (changes.RevokePrivileges rs t) IsGrantee)
 
-revoked_reads : {b : Bool} {d : ℕ} (rs : List TableRight) (t : List ℕ) → Reads b d (revoked_on rs t) (RevokedOn rs t) false (only kinds.From) []
+revoked_reads : {b : Bool} {d : ℕ} (rs : List Privilege) (t : List ℕ) → Reads b d (revoked_on rs t) (RevokedOn rs t) false (only kinds.From) []
 unfolding revoked_on
-revoked_reads rs t = after_reads kinds.From refl (made_reads (changes.RevokeRights rs t) grantee_reads)
+revoked_reads rs t = after_reads kinds.From refl (made_reads (changes.RevokePrivileges rs t) grantee_reads)
 
-revoked_table_reads : {b : Bool} {d : ℕ} (rs : List TableRight) (p : Bool × List ℕ) → Reads b d (revoked_table_on rs p) (Chosen (Seq IsName (RevokedOn rs)) (RevokedOn rs) p) false (names ++ only kinds.From) []
+revoked_table_reads : {b : Bool} {d : ℕ} (rs : List Privilege) (p : Bool × List ℕ) → Reads b d (revoked_table_on rs p) (Chosen (Seq IsName (RevokedOn rs)) (RevokedOn rs) p) false (names ++ only kinds.From) []
 unfolding revoked_table_on
 revoked_table_reads rs (true, t) = wide _ _ refl refl refl (pick_reads (then_reads name_reads (revoked_reads rs) refl) (revoked_reads rs t) refl)
 revoked_table_reads rs (false, t) = wide _ _ refl refl refl (revoked_reads rs t)
 
-revoke_rights_reads : {b : Bool} {d : ℕ} → Reads b d revoke_rights_at (IsRightsOn changes.RevokeRights (Word kinds.From)) false in_right []
+revoke_rights_reads : {b : Bool} {d : ℕ} → Reads b d revoke_rights_at (IsRightsOn changes.RevokePrivileges (Word kinds.From)) false in_right []
 unfolding revoke_rights_at
 revoke_rights_reads = wide _ _ refl refl refl (then_reads rights_reads (λ rs. after_reads kinds.On refl
     (same_reads (MayAfter kinds.Table (Seq IsName (RevokedOn rs))) (to_may kinds.Table (Seq IsName (RevokedOn rs))) (of_may kinds.Table (Seq IsName (RevokedOn rs))) (ahead_reads kinds.Table (Seq IsName (RevokedOn rs)) (RevokedOn rs) refl (revoked_table_reads rs) refl))) refl)

@@ -5,10 +5,11 @@ use Rattle.std.specs.Option.{option_and_then}
 use Rattle.lb_stmt.specs.declared.change.LabelName.{LabelName}
 use Rattle.lb_stmt.specs.declared.change.Access.{Access}
 use Rattle.lb_stmt.specs.declared.change.Access.TheVariants as accesses
-use Rattle.lb_stmt.specs.declared.change.RuleName.{RuleName}
-use Rattle.lb_stmt.specs.declared.change.RuleName.TheVariants as rules
-use Rattle.lb_stmt.specs.declared.change.TableRight.{TableRight}
-use Rattle.lb_stmt.specs.declared.change.TableRight.TheVariants as rights
+use Rattle.lb_stmt.specs.declared.change.Exempted.{Exempted}
+use Rattle.lb_base.specs.declared.rule.Rule.TheVariants as rules
+use Rattle.lb_stmt.specs.declared.change.Exempted.TheVariants as exempted
+use Rattle.lb_stmt.specs.declared.change.Privilege.{Privilege}
+use Rattle.lb_stmt.specs.declared.change.Privilege.TheVariants as rights
 use Rattle.lb_stmt.specs.declared.change.Grantee.{Grantee}
 use Rattle.lb_stmt.specs.declared.change.Grantee.TheVariants as grantees
 use Rattle.lb_stmt.specs.declared.change.Change.{Change}
@@ -67,53 +68,53 @@ which_access_at = pick (only kinds.All) (means kinds.All accesses.All) (pick (on
 unfoldable pub access_at : Reader Access
 access_at = pick (only kinds.For) (after kinds.For (seq which_access_at (λ a. means kinds.Access a))) (give accesses.All)
 
-unfoldable pub down_or_up_at : Reader RuleName
-down_or_up_at = pick (only kinds.WriteDown) (means kinds.WriteDown rules.WriteArrayDown) (means kinds.WriteUp rules.WriteArrayUp)
+unfoldable pub down_or_up_at : Reader Exempted
+down_or_up_at = pick (only kinds.WriteDown) (means kinds.WriteDown (exempted.Rule rules.WriteDown)) (means kinds.WriteUp (exempted.Rule rules.WriteUp))
 
-unfoldable pub rule_at : Reader RuleName
+unfoldable pub rule_at : Reader Exempted
 rule_at =
-    pick (only kinds.Db2LbacReadArray) (means kinds.Db2LbacReadArray rules.ReadArray)
-    (pick (only kinds.Db2LbacReadSet) (means kinds.Db2LbacReadSet rules.ReadSet)
-    (pick (only kinds.Db2LbacReadTree) (means kinds.Db2LbacReadTree rules.ReadTree)
+    pick (only kinds.Db2LbacReadArray) (means kinds.Db2LbacReadArray (exempted.Rule rules.ReadArray))
+    (pick (only kinds.Db2LbacReadSet) (means kinds.Db2LbacReadSet (exempted.Rule rules.ReadSet))
+    (pick (only kinds.Db2LbacReadTree) (means kinds.Db2LbacReadTree (exempted.Rule rules.ReadTree))
     (pick (only kinds.Db2LbacWriteArray) (after kinds.Db2LbacWriteArray down_or_up_at)
-    (pick (only kinds.Db2LbacWriteSet) (means kinds.Db2LbacWriteSet rules.WriteSet)
-    (pick (only kinds.Db2LbacWriteTree) (means kinds.Db2LbacWriteTree rules.WriteTree)
-    (means kinds.All rules.All))))))
+    (pick (only kinds.Db2LbacWriteSet) (means kinds.Db2LbacWriteSet (exempted.Rule rules.WriteSet))
+    (pick (only kinds.Db2LbacWriteTree) (means kinds.Db2LbacWriteTree (exempted.Rule rules.WriteTree))
+    (means kinds.All exempted.All))))))
 
 -- ON RULE rule FOR name
-unfoldable pub rule_of_at : Reader (RuleName × List ℕ)
+unfoldable pub rule_of_at : Reader (Exempted × List ℕ)
 rule_of_at = after kinds.On (after kinds.Rule (seq rule_at (λ r. after kinds.For (made (λ p. (r, p)) name_at))))
 
-unfoldable pub right_at : Reader TableRight
+unfoldable pub right_at : Reader Privilege
 right_at =
     pick (only kinds.Select) (means kinds.Select rights.Select)
     (pick (only kinds.Insert) (means kinds.Insert rights.Insert)
     (pick (only kinds.Update) (means kinds.Update rights.Update)
     (means kinds.Delete rights.Delete)))
 
-unfoldable pub rights_at : Reader (List TableRight)
+unfoldable pub rights_at : Reader (List Privilege)
 rights_at = listed right_at
 
 -- GRANT privileges ON a table, which may be named TABLE or TO
 
 -- behind the table: TO (u | PUBLIC)
-unfoldable pub granted_on : List TableRight → List ℕ → Reader Change
-granted_on rs t = seq (named_at kinds.To) (λ _. made (changes.GrantRights rs t) grantee_at)
+unfoldable pub granted_on : List Privilege → List ℕ → Reader Change
+granted_on rs t = seq (named_at kinds.To) (λ _. made (changes.GrantPrivileges rs t) grantee_at)
 
 -- behind TABLE, which is t, and TO, which is n, and a name: where it is TO, and a grantee follows, the table is n
-unfoldable pub third_on : List TableRight → List ℕ → List ℕ → Bool × List ℕ → Reader Change
-third_on rs t n p = choose p.0 (pick in_grantee (made (changes.GrantRights rs n) grantee_at) (give (changes.GrantRights rs t (grantees.User p.1)))) (give (changes.GrantRights rs t (grantees.User p.1)))
+unfoldable pub third_on : List Privilege → List ℕ → List ℕ → Bool × List ℕ → Reader Change
+third_on rs t n p = choose p.0 (pick in_grantee (made (changes.GrantPrivileges rs n) grantee_at) (give (changes.GrantPrivileges rs t (grantees.User p.1)))) (give (changes.GrantPrivileges rs t (grantees.User p.1)))
 
 -- behind TABLE, which is t, and TO, which is n
-unfoldable pub second_to_on : List TableRight → List ℕ → List ℕ → Reader Change
-second_to_on rs t n = pick (only kinds.Public ++ only kinds.User) (made (changes.GrantRights rs t) spelt_grantee_at) (seq (name_or kinds.To) (third_on rs t n))
+unfoldable pub second_to_on : List Privilege → List ℕ → List ℕ → Reader Change
+second_to_on rs t n = pick (only kinds.Public ++ only kinds.User) (made (changes.GrantPrivileges rs t) spelt_grantee_at) (seq (name_or kinds.To) (third_on rs t n))
 
 -- behind TABLE, which is t, and a name
-unfoldable pub second_on : List TableRight → List ℕ → Bool × List ℕ → Reader Change
+unfoldable pub second_on : List Privilege → List ℕ → Bool × List ℕ → Reader Change
 second_on rs t p = choose p.0 (second_to_on rs t p.1) (granted_on rs p.1)
 
 -- behind a name, and whether it is TABLE
-unfoldable pub first_on : List TableRight → Bool × List ℕ → Reader Change
+unfoldable pub first_on : List Privilege → Bool × List ℕ → Reader Change
 first_on rs p = choose p.0 (seq (name_or kinds.To) (second_on rs p.1)) (granted_on rs p.1)
 
 unfoldable pub grant_rights_at : Reader Change
@@ -122,10 +123,10 @@ grant_rights_at = seq rights_at (λ rs. after kinds.On (seq (name_or kinds.Table
 -- REVOKE privileges ON a table, which may be named TABLE
 
 -- behind the table: FROM (u | PUBLIC)
-unfoldable pub revoked_on : List TableRight → List ℕ → Reader Change
-revoked_on rs t = after kinds.From (made (changes.RevokeRights rs t) grantee_at)
+unfoldable pub revoked_on : List Privilege → List ℕ → Reader Change
+revoked_on rs t = after kinds.From (made (changes.RevokePrivileges rs t) grantee_at)
 
-unfoldable pub revoked_table_on : List TableRight → Bool × List ℕ → Reader Change
+unfoldable pub revoked_table_on : List Privilege → Bool × List ℕ → Reader Change
 revoked_table_on rs p = choose p.0 (pick names (seq name_at (revoked_on rs)) (revoked_on rs p.1)) (revoked_on rs p.1)
 
 unfoldable pub revoke_rights_at : Reader Change

@@ -7,9 +7,9 @@ ghost use Rattle.lb_readg.specs.Granting.{which_access_at, access_at, down_or_up
 
 use crate::user::{grantee, label_name, spelt_grantee, user};
 use crate::word::{means, name_or, named, next_is_grantee};
-use lb_base::Name;
+use lb_base::{Name, Rule};
 use lb_readt::{Read, name, next_is, next_is_either, next_is_name, take, with_first};
-use lb_stmt::{Access, Change, Grantee, RuleName, TableRight};
+use lb_stmt::{Access, Change, Exempted, Grantee, Privilege};
 use lb_tok::{Kind, Token};
 use sqlite_items::Items;
 use std::alloc::Global;
@@ -44,42 +44,58 @@ fn access<'a>(tokens: &'a [Token]) -> Read<'a, Access>
 
 // WRITEDOWN | WRITEUP
 #[tactic(auto, unfolding(crate::specs::Granting::down_or_up_at))]
-fn down_or_up<'a>(tokens: &'a [Token]) -> Read<'a, RuleName>
+fn down_or_up<'a>(tokens: &'a [Token]) -> Read<'a, Exempted>
     ensures { Gives (λ r. (r.0, r.1.now)) result (down_or_up_at tokens.now) }
 {
     if next_is(tokens, Kind::WriteDown) {
-        means(tokens, Kind::WriteDown, RuleName::WriteArrayDown)
+        means(tokens, Kind::WriteDown, Exempted::Rule(Rule::WriteDown))
     } else {
-        means(tokens, Kind::WriteUp, RuleName::WriteArrayUp)
+        means(tokens, Kind::WriteUp, Exempted::Rule(Rule::WriteUp))
     }
 }
 
 // rule = DB2LBACREADARRAY | .. | DB2LBACWRITEARRAY (WRITEDOWN | WRITEUP) | .. | ALL
 #[tactic(auto, unfolding(crate::specs::Granting::rule_at))]
-fn rule<'a>(tokens: &'a [Token]) -> Read<'a, RuleName>
+fn rule<'a>(tokens: &'a [Token]) -> Read<'a, Exempted>
     ensures { Gives (λ r. (r.0, r.1.now)) result (rule_at tokens.now) }
 {
     if next_is(tokens, Kind::Db2LbacReadArray) {
-        means(tokens, Kind::Db2LbacReadArray, RuleName::ReadArray)
+        means(
+            tokens,
+            Kind::Db2LbacReadArray,
+            Exempted::Rule(Rule::ReadArray),
+        )
     } else if next_is(tokens, Kind::Db2LbacReadSet) {
-        means(tokens, Kind::Db2LbacReadSet, RuleName::ReadSet)
+        means(tokens, Kind::Db2LbacReadSet, Exempted::Rule(Rule::ReadSet))
     } else if next_is(tokens, Kind::Db2LbacReadTree) {
-        means(tokens, Kind::Db2LbacReadTree, RuleName::ReadTree)
+        means(
+            tokens,
+            Kind::Db2LbacReadTree,
+            Exempted::Rule(Rule::ReadTree),
+        )
     } else if next_is(tokens, Kind::Db2LbacWriteArray) {
         let rest = take(tokens, Kind::Db2LbacWriteArray)?;
         down_or_up(rest)
     } else if next_is(tokens, Kind::Db2LbacWriteSet) {
-        means(tokens, Kind::Db2LbacWriteSet, RuleName::WriteSet)
+        means(
+            tokens,
+            Kind::Db2LbacWriteSet,
+            Exempted::Rule(Rule::WriteSet),
+        )
     } else if next_is(tokens, Kind::Db2LbacWriteTree) {
-        means(tokens, Kind::Db2LbacWriteTree, RuleName::WriteTree)
+        means(
+            tokens,
+            Kind::Db2LbacWriteTree,
+            Exempted::Rule(Rule::WriteTree),
+        )
     } else {
-        means(tokens, Kind::All, RuleName::All)
+        means(tokens, Kind::All, Exempted::All)
     }
 }
 
 // ON RULE rule FOR name
 #[tactic(auto, unfolding(crate::specs::Granting::rule_of_at))]
-fn rule_of<'a>(tokens: &'a [Token]) -> Read<'a, (RuleName, Name)>
+fn rule_of<'a>(tokens: &'a [Token]) -> Read<'a, (Exempted, Name)>
     ensures { Gives (λ r. (r.0, r.1.now)) result (rule_of_at tokens.now) }
 {
     let rest = take(tokens, Kind::On)?;
@@ -92,22 +108,22 @@ fn rule_of<'a>(tokens: &'a [Token]) -> Read<'a, (RuleName, Name)>
 
 // priv = SELECT | INSERT | UPDATE | DELETE
 #[tactic(auto, unfolding(crate::specs::Granting::right_at))]
-fn right<'a>(tokens: &'a [Token]) -> Read<'a, TableRight>
+fn right<'a>(tokens: &'a [Token]) -> Read<'a, Privilege>
     ensures { Gives (λ r. (r.0, r.1.now)) result (right_at tokens.now) }
 {
     if next_is(tokens, Kind::Select) {
-        means(tokens, Kind::Select, TableRight::Select)
+        means(tokens, Kind::Select, Privilege::Select)
     } else if next_is(tokens, Kind::Insert) {
-        means(tokens, Kind::Insert, TableRight::Insert)
+        means(tokens, Kind::Insert, Privilege::Insert)
     } else if next_is(tokens, Kind::Update) {
-        means(tokens, Kind::Update, TableRight::Update)
+        means(tokens, Kind::Update, Privilege::Update)
     } else {
-        means(tokens, Kind::Delete, TableRight::Delete)
+        means(tokens, Kind::Delete, Privilege::Delete)
     }
 }
 
 // {, priv}
-fn more_rights<'a>(alloc: Global, tokens: &'a [Token]) -> Read<'a, Items<TableRight>>
+fn more_rights<'a>(alloc: Global, tokens: &'a [Token]) -> Read<'a, Items<Privilege>>
     ensures { Gives (λ r. (r.0, r.1.now)) result (commas right_at tokens.now) }
 {
     let mut parts = Items::new(alloc);
@@ -127,7 +143,7 @@ fn more_rights<'a>(alloc: Global, tokens: &'a [Token]) -> Read<'a, Items<TableRi
 
 // priv {, priv}
 #[tactic(auto, unfolding(crate::specs::Granting::rights_at))]
-fn rights<'a>(alloc: Global, tokens: &'a [Token]) -> Read<'a, Items<TableRight>>
+fn rights<'a>(alloc: Global, tokens: &'a [Token]) -> Read<'a, Items<Privilege>>
     ensures { Gives (λ r. (r.0, r.1.now)) result (rights_at tokens.now) }
 {
     let (first, rest) = right(tokens)?;
@@ -137,22 +153,18 @@ fn rights<'a>(alloc: Global, tokens: &'a [Token]) -> Read<'a, Items<TableRight>>
 
 // TO (u | PUBLIC), behind the table
 #[tactic(auto, unfolding(crate::specs::Granting::granted_on))]
-fn granted_table<'a>(
-    rights: Items<TableRight>,
-    table: Name,
-    tokens: &'a [Token],
-) -> Read<'a, Change>
+fn granted_table<'a>(rights: Items<Privilege>, table: Name, tokens: &'a [Token]) -> Read<'a, Change>
     ensures { Gives (λ r. (r.0, r.1.now)) result (granted_on rights table tokens.now) }
 {
     let rest = named(tokens, Kind::To)?;
     let (grantee, rest) = grantee(rest)?;
-    Ok((Change::GrantRights(rights, table, grantee), rest))
+    Ok((Change::GrantPrivileges(rights, table, grantee), rest))
 }
 
 // Behind TABLE, TO and a name: where that is TO, and a grantee follows, the first TO is the table.
 #[tactic(auto, unfolding(crate::specs::Granting::third_on))]
 fn behind_to<'a>(
-    rights: Items<TableRight>,
+    rights: Items<Privilege>,
     first: Name,
     second: Name,
     third: (bool, Name),
@@ -163,10 +175,10 @@ fn behind_to<'a>(
     let (is_to, name) = third;
     if is_to && next_is_grantee(tokens) {
         let (grantee, rest) = grantee(tokens)?;
-        Ok((Change::GrantRights(rights, second, grantee), rest))
+        Ok((Change::GrantPrivileges(rights, second, grantee), rest))
     } else {
         Ok((
-            Change::GrantRights(rights, first, Grantee::User(name)),
+            Change::GrantPrivileges(rights, first, Grantee::User(name)),
             tokens,
         ))
     }
@@ -175,7 +187,7 @@ fn behind_to<'a>(
 // Behind TABLE and TO, of which each may be the table.
 #[tactic(auto, unfolding(crate::specs::Granting::second_to_on))]
 fn behind_table_to<'a>(
-    rights: Items<TableRight>,
+    rights: Items<Privilege>,
     first: Name,
     second: Name,
     tokens: &'a [Token],
@@ -184,7 +196,7 @@ fn behind_table_to<'a>(
 {
     if next_is_either(tokens, Kind::Public, Kind::User) {
         let (grantee, rest) = spelt_grantee(tokens)?;
-        Ok((Change::GrantRights(rights, first, grantee), rest))
+        Ok((Change::GrantPrivileges(rights, first, grantee), rest))
     } else {
         let (third, rest) = name_or(tokens, Kind::To)?;
         behind_to(rights, first, second, third, rest)
@@ -194,7 +206,7 @@ fn behind_table_to<'a>(
 // Behind TABLE and a name.
 #[tactic(auto, unfolding(crate::specs::Granting::second_on))]
 fn behind_table<'a>(
-    rights: Items<TableRight>,
+    rights: Items<Privilege>,
     first: Name,
     second: (bool, Name),
     tokens: &'a [Token],
@@ -227,16 +239,12 @@ fn grant_rights<'a>(alloc: Global, tokens: &'a [Token]) -> Read<'a, Change>
 
 // FROM (u | PUBLIC), behind the table
 #[tactic(auto, unfolding(crate::specs::Granting::revoked_on))]
-fn revoked_table<'a>(
-    rights: Items<TableRight>,
-    table: Name,
-    tokens: &'a [Token],
-) -> Read<'a, Change>
+fn revoked_table<'a>(rights: Items<Privilege>, table: Name, tokens: &'a [Token]) -> Read<'a, Change>
     ensures { Gives (λ r. (r.0, r.1.now)) result (revoked_on rights table tokens.now) }
 {
     let rest = take(tokens, Kind::From)?;
     let (grantee, rest) = grantee(rest)?;
-    Ok((Change::RevokeRights(rights, table, grantee), rest))
+    Ok((Change::RevokePrivileges(rights, table, grantee), rest))
 }
 
 // priv {, priv} ON [TABLE] name FROM (u | PUBLIC)

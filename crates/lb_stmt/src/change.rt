@@ -1,5 +1,5 @@
 // Statements that change the catalogue, as written.
-use lb_base::{Name, Str};
+use lb_base::{Name, Rule, Str};
 use lb_tree::{Cond, Expr, Tab};
 use sqlite_items::Items;
 
@@ -107,22 +107,16 @@ pub enum Access {
     Write,
 }
 
-/// A rule of DB2LBACRULES as an exemption names it, or all of them.
+/// What an exemption is from: a rule of DB2LBACRULES, or all of them.
 #[derive(Clone, Copy, Debug, PartialEq, Eq)]
-pub enum RuleName {
-    ReadArray,
-    ReadSet,
-    ReadTree,
-    WriteArrayDown,
-    WriteArrayUp,
-    WriteSet,
-    WriteTree,
+pub enum Exempted {
     All,
+    Rule(Rule),
 }
 
 /// A privilege on a table.
 #[derive(Clone, Copy, Debug, PartialEq, Eq)]
-pub enum TableRight {
+pub enum Privilege {
     Select,
     Insert,
     Update,
@@ -200,8 +194,8 @@ pub enum Change {
     GrantLabel(LabelName, Name, Access),
     RevokeLabel(LabelName, Name),
     /// The rule, the policy and the user.
-    GrantExemption(RuleName, Name, Name),
-    RevokeExemption(RuleName, Name, Name),
+    GrantExemption(Exempted, Name, Name),
+    RevokeExemption(Exempted, Name, Name),
     CreateRole(Name),
     DropRole(Name),
     /// The role and the user.
@@ -210,6 +204,6 @@ pub enum Change {
     GrantSecadm(Name),
     RevokeSecadm(Name),
     /// The privileges, the table and the grantee.
-    GrantRights(Items<TableRight>, Name, Grantee),
-    RevokeRights(Items<TableRight>, Name, Grantee),
+    GrantPrivileges(Items<Privilege>, Name, Grantee),
+    RevokePrivileges(Items<Privilege>, Name, Grantee),
 }

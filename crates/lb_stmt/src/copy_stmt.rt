@@ -3,7 +3,7 @@ ghost use Rattle.std.specs.Prelude.{◌≡◌, IfOk};
 
 use crate::{
     Assignment, Change, ColumnDef, ComponentDef, Delete, Element, Grantee, Insert, InsertSource,
-    LabelName, LabelPart, MaskDef, PermissionDef, PolicyDef, Stmt, TableRight, TreeElement, Update,
+    LabelName, LabelPart, MaskDef, PermissionDef, PolicyDef, Privilege, Stmt, TreeElement, Update,
 };
 use lb_base::{Name, NoMemory};
 use lb_tree::{Cond, Expr, copy_name, copy_names, copy_texts};
@@ -314,12 +314,12 @@ impl Grantee {
     }
 }
 
-fn copy_rights(alloc: Global, rights: &[TableRight]) -> Result<Items<TableRight>, NoMemory>
-    ensures { IfOk result (λ c. c ≡ rights.now) }
+fn copy_privileges(alloc: Global, privileges: &[Privilege]) -> Result<Items<Privilege>, NoMemory>
+    ensures { IfOk result (λ c. c ≡ privileges.now) }
 {
     let mut copied = Items::new(alloc);
-    for right in rights {
-        copied.push(*right)?;
+    for privilege in privileges {
+        copied.push(*privilege)?;
     }
     Ok(copied)
 }
@@ -514,17 +514,17 @@ impl Change {
                 let user = user.copy()?;
                 Ok(Change::RevokeSecadm(user))
             }
-            Change::GrantRights(rights, table, to) => {
-                let rights = copy_rights(alloc, rights.as_slice())?;
+            Change::GrantPrivileges(privileges, table, to) => {
+                let privileges = copy_privileges(alloc, privileges.as_slice())?;
                 let table = table.copy()?;
                 let to = to.copy()?;
-                Ok(Change::GrantRights(rights, table, to))
+                Ok(Change::GrantPrivileges(privileges, table, to))
             }
-            Change::RevokeRights(rights, table, from) => {
-                let rights = copy_rights(alloc, rights.as_slice())?;
+            Change::RevokePrivileges(privileges, table, from) => {
+                let privileges = copy_privileges(alloc, privileges.as_slice())?;
                 let table = table.copy()?;
                 let from = from.copy()?;
-                Ok(Change::RevokeRights(rights, table, from))
+                Ok(Change::RevokePrivileges(privileges, table, from))
             }
         }
     }

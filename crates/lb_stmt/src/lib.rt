@@ -6,8 +6,8 @@ mod copy_stmt;
 mod write;
 
 pub use change::{
-    Access, Activation, Change, ColumnDef, ColumnType, ComponentDef, ControlOf, Element, Grantee,
-    LabelName, LabelPart, MaskDef, PermissionDef, PlainType, PolicyDef, RuleName, Switch,
-    TableRight, TreeElement, WriteOption,
+    Access, Activation, Change, ColumnDef, ColumnType, ComponentDef, ControlOf, Element, Exempted,
+    Grantee, LabelName, LabelPart, MaskDef, PermissionDef, PlainType, PolicyDef, Privilege, Switch,
+    TreeElement, WriteOption,
 };
 pub use write::{Assignment, Delete, Insert, InsertSource, Stmt, Update};

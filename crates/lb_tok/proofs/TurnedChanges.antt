@@ -23,10 +23,11 @@ use Rattle.lb_stmt.specs.declared.change.LabelName.{LabelName}
 use Rattle.lb_stmt.specs.declared.change.LabelPart.{LabelPart}
 use Rattle.lb_stmt.specs.declared.change.Access.{Access}
 use Rattle.lb_stmt.specs.declared.change.Access.TheVariants as accesses
-use Rattle.lb_stmt.specs.declared.change.RuleName.{RuleName}
-use Rattle.lb_stmt.specs.declared.change.RuleName.TheVariants as rules
-use Rattle.lb_stmt.specs.declared.change.TableRight.{TableRight}
-use Rattle.lb_stmt.specs.declared.change.TableRight.TheVariants as rights
+use Rattle.lb_stmt.specs.declared.change.Exempted.{Exempted}
+use Rattle.lb_base.specs.declared.rule.Rule.TheVariants as rules
+use Rattle.lb_stmt.specs.declared.change.Exempted.TheVariants as exempted
+use Rattle.lb_stmt.specs.declared.change.Privilege.{Privilege}
+use Rattle.lb_stmt.specs.declared.change.Privilege.TheVariants as rights
 use Rattle.lb_stmt.specs.declared.change.Grantee.{Grantee}
 use Rattle.lb_stmt.specs.declared.change.Grantee.TheVariants as grantees
 use Rattle.lb_stmt.specs.declared.change.Change.{Change}
@@ -515,30 +516,30 @@ access_spells {t} a = left (after kinds.For refl (seq (kind a) (means kinds.Acce
     kind accesses.Read = right (left (means kinds.Read accesses.Read refl))
     kind accesses.Write = right (right (means kinds.Write accesses.Write refl))
 
-rule_spells : {t : Below} (r : RuleName) → Spells IsRule t (rule_pieces r) r
+rule_spells : {t : Below} (r : Exempted) → Spells IsRule t (rule_pieces r) r
 unfolding has
-rule_spells rules.ReadArray = left (means kinds.Db2LbacReadArray rules.ReadArray refl)
-rule_spells rules.ReadSet = right (left (means kinds.Db2LbacReadSet rules.ReadSet refl))
-rule_spells rules.ReadTree = right (right (left (means kinds.Db2LbacReadTree rules.ReadTree refl)))
-rule_spells rules.WriteArrayDown = right (right (right (left (after kinds.Db2LbacWriteArray refl (left (means kinds.WriteDown rules.WriteArrayDown refl))))))
-rule_spells rules.WriteArrayUp = right (right (right (left (after kinds.Db2LbacWriteArray refl (right (means kinds.WriteUp rules.WriteArrayUp refl))))))
-rule_spells rules.WriteSet = right (right (right (right (left (means kinds.Db2LbacWriteSet rules.WriteSet refl)))))
-rule_spells rules.WriteTree = right (right (right (right (right (left (means kinds.Db2LbacWriteTree rules.WriteTree refl))))))
-rule_spells rules.All = right (right (right (right (right (right (means kinds.All rules.All refl))))))
+rule_spells (exempted.Rule rules.ReadArray) = left (means kinds.Db2LbacReadArray (exempted.Rule rules.ReadArray) refl)
+rule_spells (exempted.Rule rules.ReadSet) = right (left (means kinds.Db2LbacReadSet (exempted.Rule rules.ReadSet) refl))
+rule_spells (exempted.Rule rules.ReadTree) = right (right (left (means kinds.Db2LbacReadTree (exempted.Rule rules.ReadTree) refl)))
+rule_spells (exempted.Rule rules.WriteDown) = right (right (right (left (after kinds.Db2LbacWriteArray refl (left (means kinds.WriteDown (exempted.Rule rules.WriteDown) refl))))))
+rule_spells (exempted.Rule rules.WriteUp) = right (right (right (left (after kinds.Db2LbacWriteArray refl (right (means kinds.WriteUp (exempted.Rule rules.WriteUp) refl))))))
+rule_spells (exempted.Rule rules.WriteSet) = right (right (right (right (left (means kinds.Db2LbacWriteSet (exempted.Rule rules.WriteSet) refl)))))
+rule_spells (exempted.Rule rules.WriteTree) = right (right (right (right (right (left (means kinds.Db2LbacWriteTree (exempted.Rule rules.WriteTree) refl))))))
+rule_spells exempted.All = right (right (right (right (right (right (means kinds.All exempted.All refl))))))
 
 -- ON RULE rule FOR name
-abbrev rule_of_pieces : RuleName × List ℕ → List Piece
+abbrev rule_of_pieces : Exempted × List ℕ → List Piece
 rule_of_pieces r = mark kinds.On ∷ mark kinds.Rule ∷ (rule_pieces r.0 ++ mark kinds.For ∷ name r.1 ∷ [])
 
-rule_of-turn : {s t : Below} (ts : List Token) (x : RuleName × List ℕ) → Got IsRuleOf s ts x → Spells IsRuleOf t (rule_of_pieces x) x
+rule_of-turn : {s t : Below} (ts : List Token) (x : Exempted × List ℕ) → Got IsRuleOf s ts x → Spells IsRuleOf t (rule_of_pieces x) x
 unfolding has
 rule_of-turn {s} {t} ts x g =
     let p = split (follow (follow g).got).got in
     let q = unmake (follow p.right).got in
-    subst (λ (y : RuleName × List ℕ). Spells IsRuleOf t (rule_of_pieces y) y) (sym q.is)
+    subst (λ (y : Exempted × List ℕ). Spells IsRuleOf t (rule_of_pieces y) y) (sym q.is)
     (after kinds.On refl (after kinds.Rule refl (seq (rule_spells p.tree) (after kinds.For refl (made (name-turn q.tokens q.tree q.got))))))
 
-right_spells : {s t : Below} (ts : List Token) (r : TableRight) → Got IsRight s ts r → Spells IsRight t (right_pieces r) r
+right_spells : {s t : Below} (ts : List Token) (r : Privilege) → Got IsRight s ts r → Spells IsRight t (right_pieces r) r
 unfolding has
 right_spells ts rights.Select g = left (means kinds.Select rights.Select refl)
 right_spells ts rights.Insert g = right (left (means kinds.Insert rights.Insert refl))
@@ -546,17 +547,17 @@ right_spells ts rights.Update g = right (right (left (means kinds.Update rights.
 right_spells ts rights.Delete g = right (right (right (means kinds.Delete rights.Delete refl)))
 
 -- the privileges, the table, TO or FROM, and the grantee
-rights_shape : (rs : List TableRight) (n : List ℕ) (k : Piece) (g : List Piece) → listed (map right_pieces rs) ++ mark kinds.On ∷ name n ∷ k ∷ g ≡ rights_pieces rs n ++ k ∷ g
+rights_shape : (rs : List Privilege) (n : List ℕ) (k : Piece) (g : List Piece) → listed (map right_pieces rs) ++ mark kinds.On ∷ name n ∷ k ∷ g ≡ rights_pieces rs n ++ k ∷ g
 rights_shape rs n k g = sym (append_assoc (listed (map right_pieces rs)) (mark kinds.On ∷ name n ∷ []) (k ∷ g))
 
-record RightsOn (f : List TableRight → List ℕ → Grantee → Change) (W : Lang (Unit {0})) (k : Piece) (t : Below) (x : Change) : Type 0 where
-  pub rights : List TableRight
+record RightsOn (f : List Privilege → List ℕ → Grantee → Change) (W : Lang (Unit {0})) (k : Piece) (t : Below) (x : Change) : Type 0 where
+  pub rights : List Privilege
   pub table : List ℕ
   pub grantee : Grantee
   pub is : x ≡ f rights table grantee
   pub spells : Spells (IsRightsOn f W) t (rights_pieces rights table ++ k ∷ grantee_pieces grantee) (f rights table grantee)
 
-rights_on : {s t : Below} (f : List TableRight → List ℕ → Grantee → Change) (W : Lang (Unit {0})) (k : Piece) → Spells W t (k ∷ []) tt → (ts : List Token) (x : Change) → Got (IsRightsOn f W) s ts x → RightsOn f W k t x
+rights_on : {s t : Below} (f : List Privilege → List ℕ → Grantee → Change) (W : Lang (Unit {0})) (k : Piece) → Spells W t (k ∷ []) tt → (ts : List Token) (x : Change) → Got (IsRightsOn f W) s ts x → RightsOn f W k t x
 unfolding has
 rights_on {s} {t} f W k w ts x g =
     let p = split g in
@@ -571,7 +572,7 @@ rights_on {s} {t} f W k w ts x g =
           (seq (listing right_pieces right_spells p.tree p.front p.left) (after kinds.On refl (without (seq (name-turn n.front n.tree n.left) (seq w (made (grantee-turn q.tokens q.tree q.got)))))));
     }
 
-exemption_shape : (r : RuleName) (n : List ℕ) (k : Piece) (u : List Piece) → mark kinds.Exemption ∷ (rule_of_pieces (r, n) ++ k ∷ u) ≡ exemption_pieces r n ++ k ∷ u
+exemption_shape : (r : Exempted) (n : List ℕ) (k : Piece) (u : List Piece) → mark kinds.Exemption ∷ (rule_of_pieces (r, n) ++ k ∷ u) ≡ exemption_pieces r n ++ k ∷ u
 exemption_shape r n k u = refl
 
 grant-turn : {s t : Below} (ts : List Token) (x : Change) → Got IsGrant s ts x → Spells IsChange t (change_pieces x) x
@@ -593,7 +594,7 @@ grant-turn {s} {t} ts x g =
     (λ a. let q = unmake (follow (follow (follow (follow a).got).got).got).got in
     subst (λ (y : Change). Spells IsChange t (change_pieces y) y) (sym q.is)
     (in_grant (right (right (right (left (after kinds.Secadm refl (after kinds.On refl (after kinds.Database refl (after kinds.To refl (made (user-turn q.tokens q.tree q.got))))))))))))
-    (λ a. let q = rights_on changes.GrantRights (Named kinds.To) (mark kinds.To) (named kinds.To refl refl) ts x a in
+    (λ a. let q = rights_on changes.GrantPrivileges (Named kinds.To) (mark kinds.To) (named kinds.To refl refl) ts x a in
     subst (λ (y : Change). Spells IsChange t (change_pieces y) y) (sym q.is)
     (in_grant (right (right (right (right (q.spells))))))))))
 
@@ -616,7 +617,7 @@ revoke-turn {s} {t} ts x g =
     (λ a. let q = unmake (follow (follow (follow (follow a).got).got).got).got in
     subst (λ (y : Change). Spells IsChange t (change_pieces y) y) (sym q.is)
     (in_revoke (right (right (right (left (after kinds.Secadm refl (after kinds.On refl (after kinds.Database refl (after kinds.From refl (made (user-turn q.tokens q.tree q.got))))))))))))
-    (λ a. let q = rights_on changes.RevokeRights (Word kinds.From) (mark kinds.From) (word kinds.From refl) ts x a in
+    (λ a. let q = rights_on changes.RevokePrivileges (Word kinds.From) (mark kinds.From) (word kinds.From refl) ts x a in
     subst (λ (y : Change). Spells IsChange t (change_pieces y) y) (sym q.is)
     (in_revoke (right (right (right (right (q.spells))))))))))
 

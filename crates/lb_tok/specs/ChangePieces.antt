@@ -21,10 +21,11 @@ use Rattle.lb_stmt.specs.declared.change.LabelName.{LabelName}
 use Rattle.lb_stmt.specs.declared.change.LabelPart.{LabelPart}
 use Rattle.lb_stmt.specs.declared.change.Access.{Access}
 use Rattle.lb_stmt.specs.declared.change.Access.TheVariants as accesses
-use Rattle.lb_stmt.specs.declared.change.RuleName.{RuleName}
-use Rattle.lb_stmt.specs.declared.change.RuleName.TheVariants as rules
-use Rattle.lb_stmt.specs.declared.change.TableRight.{TableRight}
-use Rattle.lb_stmt.specs.declared.change.TableRight.TheVariants as rights
+use Rattle.lb_stmt.specs.declared.change.Exempted.{Exempted}
+use Rattle.lb_base.specs.declared.rule.Rule.TheVariants as rules
+use Rattle.lb_stmt.specs.declared.change.Exempted.TheVariants as exempted
+use Rattle.lb_stmt.specs.declared.change.Privilege.{Privilege}
+use Rattle.lb_stmt.specs.declared.change.Privilege.TheVariants as rights
 use Rattle.lb_stmt.specs.declared.change.Grantee.{Grantee}
 use Rattle.lb_stmt.specs.declared.change.Grantee.TheVariants as grantees
 use Rattle.lb_stmt.specs.declared.change.PermissionDef.{PermissionDef}
@@ -169,31 +170,31 @@ access_kind accesses.Write = kinds.Write
 abbrev pub access_pieces : Access → List Piece
 access_pieces a = mark kinds.For ∷ mark (access_kind a) ∷ mark kinds.Access ∷ []
 
-abbrev pub rule_pieces : RuleName → List Piece
-rule_pieces rules.ReadArray = mark kinds.Db2LbacReadArray ∷ []
-rule_pieces rules.ReadSet = mark kinds.Db2LbacReadSet ∷ []
-rule_pieces rules.ReadTree = mark kinds.Db2LbacReadTree ∷ []
-rule_pieces rules.WriteArrayDown = mark kinds.Db2LbacWriteArray ∷ mark kinds.WriteDown ∷ []
-rule_pieces rules.WriteArrayUp = mark kinds.Db2LbacWriteArray ∷ mark kinds.WriteUp ∷ []
-rule_pieces rules.WriteSet = mark kinds.Db2LbacWriteSet ∷ []
-rule_pieces rules.WriteTree = mark kinds.Db2LbacWriteTree ∷ []
-rule_pieces rules.All = mark kinds.All ∷ []
+abbrev pub rule_pieces : Exempted → List Piece
+rule_pieces (exempted.Rule rules.ReadArray) = mark kinds.Db2LbacReadArray ∷ []
+rule_pieces (exempted.Rule rules.ReadSet) = mark kinds.Db2LbacReadSet ∷ []
+rule_pieces (exempted.Rule rules.ReadTree) = mark kinds.Db2LbacReadTree ∷ []
+rule_pieces (exempted.Rule rules.WriteDown) = mark kinds.Db2LbacWriteArray ∷ mark kinds.WriteDown ∷ []
+rule_pieces (exempted.Rule rules.WriteUp) = mark kinds.Db2LbacWriteArray ∷ mark kinds.WriteUp ∷ []
+rule_pieces (exempted.Rule rules.WriteSet) = mark kinds.Db2LbacWriteSet ∷ []
+rule_pieces (exempted.Rule rules.WriteTree) = mark kinds.Db2LbacWriteTree ∷ []
+rule_pieces exempted.All = mark kinds.All ∷ []
 
 -- EXEMPTION ON RULE rule FOR policy
-abbrev pub exemption_pieces : RuleName → List ℕ → List Piece
+abbrev pub exemption_pieces : Exempted → List ℕ → List Piece
 exemption_pieces r p = mark kinds.Exemption ∷ mark kinds.On ∷ mark kinds.Rule ∷ (rule_pieces r ++ mark kinds.For ∷ name p ∷ [])
 
-abbrev pub right_kind : TableRight → Kind
+abbrev pub right_kind : Privilege → Kind
 right_kind rights.Select = kinds.Select
 right_kind rights.Insert = kinds.Insert
 right_kind rights.Update = kinds.Update
 right_kind rights.Delete = kinds.Delete
 
-abbrev pub right_pieces : TableRight → List Piece
+abbrev pub right_pieces : Privilege → List Piece
 right_pieces r = mark (right_kind r) ∷ []
 
 -- TABLE is not written
-abbrev pub rights_pieces : List TableRight → List ℕ → List Piece
+abbrev pub rights_pieces : List Privilege → List ℕ → List Piece
 rights_pieces rs t = listed (map right_pieces rs) ++ mark kinds.On ∷ name t ∷ []
 
 -- ---- all changes
@@ -228,5 +229,5 @@ change_pieces (changes.GrantRole r u) = mark kinds.Grant ∷ mark kinds.Role ∷
 change_pieces (changes.RevokeRole r u) = mark kinds.Revoke ∷ mark kinds.Role ∷ name r ∷ mark kinds.From ∷ user_pieces u
 change_pieces (changes.GrantSecadm u) = mark kinds.Grant ∷ mark kinds.Secadm ∷ mark kinds.On ∷ mark kinds.Database ∷ mark kinds.To ∷ user_pieces u
 change_pieces (changes.RevokeSecadm u) = mark kinds.Revoke ∷ mark kinds.Secadm ∷ mark kinds.On ∷ mark kinds.Database ∷ mark kinds.From ∷ user_pieces u
-change_pieces (changes.GrantRights rs t g) = mark kinds.Grant ∷ (rights_pieces rs t ++ mark kinds.To ∷ grantee_pieces g)
-change_pieces (changes.RevokeRights rs t g) = mark kinds.Revoke ∷ (rights_pieces rs t ++ mark kinds.From ∷ grantee_pieces g)
+change_pieces (changes.GrantPrivileges rs t g) = mark kinds.Grant ∷ (rights_pieces rs t ++ mark kinds.To ∷ grantee_pieces g)
+change_pieces (changes.RevokePrivileges rs t g) = mark kinds.Revoke ∷ (rights_pieces rs t ++ mark kinds.From ∷ grantee_pieces g)

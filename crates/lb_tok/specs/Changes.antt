@@ -19,10 +19,11 @@ use Rattle.lb_stmt.specs.declared.change.LabelName.{LabelName}
 use Rattle.lb_stmt.specs.declared.change.LabelPart.{LabelPart}
 use Rattle.lb_stmt.specs.declared.change.Access.{Access}
 use Rattle.lb_stmt.specs.declared.change.Access.TheVariants as accesses
-use Rattle.lb_stmt.specs.declared.change.RuleName.{RuleName}
-use Rattle.lb_stmt.specs.declared.change.RuleName.TheVariants as rules
-use Rattle.lb_stmt.specs.declared.change.TableRight.{TableRight}
-use Rattle.lb_stmt.specs.declared.change.TableRight.TheVariants as rights
+use Rattle.lb_stmt.specs.declared.change.Exempted.{Exempted}
+use Rattle.lb_base.specs.declared.rule.Rule.TheVariants as rules
+use Rattle.lb_stmt.specs.declared.change.Exempted.TheVariants as exempted
+use Rattle.lb_stmt.specs.declared.change.Privilege.{Privilege}
+use Rattle.lb_stmt.specs.declared.change.Privilege.TheVariants as rights
 use Rattle.lb_stmt.specs.declared.change.Grantee.{Grantee}
 use Rattle.lb_stmt.specs.declared.change.Grantee.TheVariants as grantees
 use Rattle.lb_stmt.specs.declared.change.Change.{Change}
@@ -216,22 +217,22 @@ IsAccess =
     (Nothing accesses.All)
 
 -- rule = DB2LBACREADARRAY | DB2LBACREADSET | DB2LBACREADTREE | DB2LBACWRITEARRAY (WRITEDOWN | WRITEUP) | DB2LBACWRITESET | DB2LBACWRITETREE | ALL
-abbrev pub IsRule : Lang RuleName
+abbrev pub IsRule : Lang Exempted
 IsRule =
-    Either (Means kinds.Db2LbacReadArray rules.ReadArray)
-    (Either (Means kinds.Db2LbacReadSet rules.ReadSet)
-    (Either (Means kinds.Db2LbacReadTree rules.ReadTree)
-    (Either (After kinds.Db2LbacWriteArray (Either (Means kinds.WriteDown rules.WriteArrayDown) (Means kinds.WriteUp rules.WriteArrayUp)))
-    (Either (Means kinds.Db2LbacWriteSet rules.WriteSet)
-    (Either (Means kinds.Db2LbacWriteTree rules.WriteTree)
-    (Means kinds.All rules.All))))))
+    Either (Means kinds.Db2LbacReadArray (exempted.Rule rules.ReadArray))
+    (Either (Means kinds.Db2LbacReadSet (exempted.Rule rules.ReadSet))
+    (Either (Means kinds.Db2LbacReadTree (exempted.Rule rules.ReadTree))
+    (Either (After kinds.Db2LbacWriteArray (Either (Means kinds.WriteDown (exempted.Rule rules.WriteDown)) (Means kinds.WriteUp (exempted.Rule rules.WriteUp))))
+    (Either (Means kinds.Db2LbacWriteSet (exempted.Rule rules.WriteSet))
+    (Either (Means kinds.Db2LbacWriteTree (exempted.Rule rules.WriteTree))
+    (Means kinds.All exempted.All))))))
 
 -- ON RULE rule FOR name
-abbrev pub IsRuleOf : Lang (RuleName × List ℕ)
+abbrev pub IsRuleOf : Lang (Exempted × List ℕ)
 IsRuleOf = After kinds.On (After kinds.Rule (Seq IsRule (λ r. After kinds.For (Made (λ p. (r, p)) IsName))))
 
 -- priv = SELECT | INSERT | UPDATE | DELETE
-abbrev pub IsRight : Lang TableRight
+abbrev pub IsRight : Lang Privilege
 IsRight =
     Either (Means kinds.Select rights.Select)
     (Either (Means kinds.Insert rights.Insert)
@@ -239,7 +240,7 @@ IsRight =
     (Means kinds.Delete rights.Delete)))
 
 -- priv {, priv} ON [TABLE] name k (u | PUBLIC), where k is TO or FROM
-abbrev pub IsRightsOn : (List TableRight → List ℕ → Grantee → Change) → Lang (Unit {0}) → Lang Change
+abbrev pub IsRightsOn : (List Privilege → List ℕ → Grantee → Change) → Lang (Unit {0}) → Lang Change
 IsRightsOn f k = Seq (Listed IsRight) (λ rs. After kinds.On (Seq (MayNamed kinds.Table) (λ _. Seq IsName (λ t. Seq k (λ _. Made (f rs t) IsGrantee)))))
 
 -- GRANT SECURITY LABEL name . name TO u [FOR (ALL | READ | WRITE) ACCESS]
@@ -252,7 +253,7 @@ IsGrant =
     (Either (After kinds.Exemption (Seq IsRuleOf (λ r. After kinds.To (Made (changes.GrantExemption r.0 r.1) IsUser))))
     (Either (After kinds.Role (Seq IsName (λ r. After kinds.To (Made (changes.GrantRole r) IsUser))))
     (Either (After kinds.Secadm (After kinds.On (After kinds.Database (After kinds.To (Made changes.GrantSecadm IsUser)))))
-    (IsRightsOn changes.GrantRights (Named kinds.To)))))
+    (IsRightsOn changes.GrantPrivileges (Named kinds.To)))))
 
 -- REVOKE SECURITY LABEL name . name FROM u | REVOKE EXEMPTION ON RULE rule FOR name FROM u
 --     | REVOKE ROLE name FROM u | REVOKE SECADM ON DATABASE FROM u
@@ -263,7 +264,7 @@ IsRevoke =
     (Either (After kinds.Exemption (Seq IsRuleOf (λ r. After kinds.From (Made (changes.RevokeExemption r.0 r.1) IsUser))))
     (Either (After kinds.Role (Seq IsName (λ r. After kinds.From (Made (changes.RevokeRole r) IsUser))))
     (Either (After kinds.Secadm (After kinds.On (After kinds.Database (After kinds.From (Made changes.RevokeSecadm IsUser)))))
-    (IsRightsOn changes.RevokeRights (Word kinds.From)))))
+    (IsRightsOn changes.RevokePrivileges (Word kinds.From)))))
 
 -- ---- all changes
 

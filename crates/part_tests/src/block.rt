@@ -1,6 +1,5 @@
-use lb_base::{Listing, Name, NoMemory, Row, RowList, Str, Value};
+use lb_base::{Listing, Name, NoMemory, Row, RowList, Rule, Str, Value};
 use lb_block::{bad_script, block, header};
-use lb_label::Rule;
 use lb_model::{Answer, Flaw, LimitOf, Mark, Refusal, Reply, Right, Verb};
 use std::alloc::{AllocError, Global};
 use std::test::Fail;

@@ -370,7 +370,10 @@ fn elements_are_refused(rt: HostRuntime) -> Result<(), Failure> {
 
 #[test]
 fn a_policy_has_sixteen_components(rt: HostRuntime) -> Result<(), Failure> {
-    let level = Arc::new(rt.alloc(), flat(rt.alloc(), ComponentKind::Array, &["TOP"])?)?;
+    let level = Arc::new(
+        rt.alloc(),
+        flat(rt.alloc(), ComponentKind::Array, &["TOP"])?,
+    )?;
     let mut shape = Shape::empty();
     for _ in 0..16 {
         shape.push(level.clone()?)?;
