@@ -1,10 +1,10 @@
 -- How pieces go through what tokens are made of: white space, comments, and each kind of token.
-use Rattle.std.proofs.Common.{Bool, true, false, cond, ◌&&◌, ◌||◌, ◌==◌, not, inl, inr, ◌≡◌, ℕ, zero, suc, ◌+◌, ◌<◌, ◌≤◌, List, [], ◌∷◌, ◌++◌, length, drop, Option, Some, None, refl, sym, ap, subst, ◌∙◌, append_assoc, arith}
+use Rattle.std.proofs.Common.{Bool, true, false, cond, ◌&&◌, ◌==◌, not, inl, inr, ◌≡◌, ℕ, suc, ◌+◌, List, [], ◌∷◌, ◌++◌, length, Some, None, refl, ap, subst, ◌∙◌, append_assoc, arith}
 use Rattle.std.specs.List.{list_all}
 use Rattle.std.specs.Prelude.{nat_le}
 use Rattle.std.specs.Char.{is_ascii_digit, is_ascii_alphabetic}
 use Rattle.std.proofs.lemmas.Bool.Decides.{nat_tests}
-use Rattle.std.proofs.lemmas.List.{append-nil, length-append}
+use Rattle.std.proofs.lemmas.List.{length-append}
 use Rattle.lb_base.specs.Names.{is_name_byte, is_name, name_of, folded}
 use Rattle.lb_split.specs.Lexing.{is_white, behind, passed_len, is_gap, is_inside}
 use Rattle.lb_split.specs.Lexing as split
@@ -14,7 +14,7 @@ use Rattle.lb_tok.specs.declared.kind.Kind.{Kind}
 use Rattle.lb_tok.specs.declared.kind.Kind.TheVariants as kinds
 use Rattle.lb_tok.specs.declared.token.Token.{Token}
 use Rattle.lb_tok.specs.Kinds.{from_to, has, spelling}
-use Rattle.lb_tok.specs.Lexing.{is_blank, is_line, Piece, a_blank, a_comment, GapOf, Gap, doubled, goes_on, begins, begins_gap, IsWord, IsNumeral, IsQuoted, IsSymbol, Writes}
+use Rattle.lb_tok.specs.Lexing.{is_line, Piece, a_blank, a_comment, GapOf, Gap, doubled, goes_on, begins, Writes}
 
 -- ---- a test that white space and comments pass
 

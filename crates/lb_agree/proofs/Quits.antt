@@ -1,8 +1,7 @@
 -- Blank statements and QUIT, as pieces and as tokens.
-use Rattle.std.proofs.Common.{Bool, true, false, cond, inl, inr, ◌≡◌, ℕ, zero, suc, ◌+◌, ◌<◌, ◌≤◌, List, [], ◌∷◌, ◌++◌, length, take, drop, map, Option, Some, None, refl, sym, ap, subst, ◌∙◌, arith, codes}
-use Rattle.std.specs.Prelude.{◌==◌, ◌&&◌, ◌||◌, ◌↔◌, nat_le}
+use Rattle.std.proofs.Common.{Bool, true, false, cond, inl, inr, ◌≡◌, ℕ, ◌+◌, ◌≤◌, List, [], ◌∷◌, ◌++◌, length, take, drop, Some, None, refl, sym, ap, subst, ◌∙◌, arith, codes}
+use Rattle.std.specs.Prelude.{◌==◌, ◌&&◌, ◌||◌, ◌↔◌}
 use Rattle.std.specs.Str.{bytes_eq}
-use Rattle.std.specs.List.{list_all}
 use Rattle.std.specs.Char.{is_ascii_alphabetic, to_ascii_uppercase}
 use Rattle.std.proofs.lemmas.Bool.{eq-eqb}
 use Rattle.std.proofs.lemmas.Bool.Decides.{nat_tests}
@@ -12,22 +11,19 @@ use Rattle.std.proofs.Math.Seq.{drop-append_seam, take-append_seam}
 use Rattle.lb_base.specs.Names.{is_name_byte, name_of, folded}
 use Rattle.lb_split.specs.Lexing.{is_white, behind, passed_len, is_gap, gap_len, is_quit}
 use Rattle.lb_split.specs.Lexing as split
-use Rattle.lb_split.specs.declared.scan.Place.{Place}
-use Rattle.lb_split.specs.declared.scan.Place.TheVariants as places
 use Rattle.lb_tok.specs.declared.kind.Kind.{Kind}
 use Rattle.lb_tok.specs.declared.kind.Kind.TheVariants as kinds
 use Rattle.lb_tok.specs.declared.token.Token.{Token}
-use Rattle.lb_tok.specs.declared.token.Content.{Content}
 use Rattle.lb_tok.specs.declared.token.Content.TheVariants as contents
 use Rattle.lb_tok.specs.declared.token.Span.{Span}
 use Rattle.lb_tok.specs.Kinds.{from_to, has, names, kind_of, keywords, spelling}
-use Rattle.lb_tok.specs.Lexing.{is_blank, begins, begins_gap, goes_on, word_token, Writes, Piece, a_blank, a_comment, GapOf, Gap, StandsBefore, LexedFrom}
-use Rattle.lb_tok.specs.Scanning.{past_gap, past_gap_in}
+use Rattle.lb_tok.specs.Lexing.{is_blank, begins, begins_gap, goes_on, Writes, Piece, a_blank, a_comment, GapOf, Gap, LexedFrom}
+use Rattle.lb_tok.specs.Scanning.{past_gap}
 use Rattle.lb_tok.specs.Spelled.{AreTokens}
 use Rattle.lb_tok.proofs.Gaps.{gap_of, gap_done}
 use Rattle.lb_tok.proofs.Scanned.{no_gap_before}
 use Rattle.lb_agree.specs.Agreeing.{quit_token}
-use Rattle.lb_agree.proofs.Passed.{one, gaps_pass, gap_passed, name_bytes}
+use Rattle.lb_agree.proofs.Passed.{gaps_pass, gap_passed, name_bytes}
 
 -- ---- a gap is as long to pieces as to tokens
 
