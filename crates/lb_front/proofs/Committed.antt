@@ -1,15 +1,15 @@
 -- A statement that was run, and one that was not.
 use Rattle.std.proofs.Common.{Bool, true, false, cond, ◌≡◌, ◌⊎◌, inl, inr, ℕ, zero, ◌+◌, ◌<◌, ◌≤◌, ◌^◌, List, [], ◌∷◌, ◌++◌, length, take, Option, Some, None, refl, sym, ap, subst, ◌∙◌, zero-add, arith}
-use Rattle.std.specs.Prelude.{ℤ, slice_get, ◌==◌, nat_lt}
+use Rattle.std.specs.Prelude.{ℤ, slice_get, ◌==◌}
 use Rattle.std.proofs.Math.Seq.{take-length}
-use Rattle.std.proofs.lemmas.Bool.{ltb-false, ltb-true}
 use Rattle.std.proofs.lemmas.Bool.Decides.{nat_tests}
 use Rattle.std.proofs.lemmas.List.Sums.{fold-append}
 use Rattle.std.proofs.lemmas.List.{take-append-le, length-append}
 use Rattle.lb_stmt.specs.declared.write.Stmt.{Stmt}
 use Rattle.lb_tok.specs.Canonical.{canonical}
-use Rattle.lb_tok.specs.Syntax.{IsReadable, IsBeyond}
+use Rattle.lb_tok.specs.Syntax.{IsReadable}
 use Rattle.lb_read.proofs.Again.{spoken}
+use Rattle.lb_wire.specs.Days.{IsDay}
 use Rattle.lb_model.specs.declared.entry.Entry.{Entry}
 use Rattle.lb_model.specs.declared.entry.Entry.TheVariants as entries
 use Rattle.lb_model.specs.declared.entry.Said.{Said}
@@ -20,19 +20,19 @@ use Rattle.lb_model.specs.declared.reply.Reply.{Reply}
 use Rattle.lb_model.specs.declared.reply.Reply.TheVariants as replies
 use Rattle.lb_model.specs.Answer.{is_query}
 use Rattle.lb_model.specs.Step.{State, first, after}
-use Rattle.lb_model.specs.Journal.{IsMade, Speaks, IsDay, FollowsSaid, opened_by, said_by, is_said_by, opens}
+use Rattle.lb_model.specs.Journal.{IsMade, Speaks, FollowsSaid, opened_by, said_by, is_said_by, opens}
 use Rattle.lb_model.specs.Replay.{Steps, Replay, Rep}
 use Rattle.lb_model.specs.NotYet.{IsUnbuilt}
 use Rattle.lb_model.specs.Told.{Placed, IsUnplaced, Unplaced, mark_of}
 use Rattle.lb_model.proofs.There.{runs_more}
-use Rattle.lb_model.proofs.Grows.{get_end, made_more, opened_more}
+use Rattle.lb_model.proofs.GrewBy.{get_end, made_more, opened_more}
 use Rattle.lb_model.proofs.Sessions.{opened_last, said_none}
 use Rattle.lb_refr.specs.Stored.{Stored}
 use Rattle.lb_front.specs.declared.book.Session.{Session}
 use Rattle.lb_front.specs.declared.book.Prepared.{Prepared}
 use Rattle.lb_front.specs.declared.stop.Stop.{Stop}
 use Rattle.lb_front.specs.declared.stop.Stop.TheVariants as stops
-use Rattle.lb_front.specs.Booked.{Stands, IsSeated}
+use Rattle.lb_front.specs.Booked.{Stands, IsSessionOf}
 use Rattle.lb_front.specs.Executed.{Left, Added, Executed, ExecutedAt}
 use Rattle.lb_front.specs.Prepared.{stop_reply, IsReady, IsStopped, Did}
 
@@ -86,25 +86,17 @@ said_more J d s h =
     let one : one_if (d.session == s) ≡ 1 = rw h (chosen_one (s == s) (itself s)) in
     fold-append (λ a x. a + cond (is_said_by s x) 1 0) 0 J (entries.Said d ∷ []) ∙ ap (λ (n : ℕ). said_by J s + n) one
 
-not_above : (b : Bool) (m n : ℕ) → nat_lt m n ≡ b → (m < n → ⊥) → n ≤ m
-not_above true m n e h = absurd (h (ltb-true m n e))
-not_above false m n e h = ltb-false m n e
-
--- a canonical text that goes beyond no limit is short enough for an entry
-short_text : (s : Stmt) → (IsBeyond s → ⊥) → length (canonical s) ≤ 4096
-short_text s h = not_above (nat_lt 4096 (length (canonical s))) 4096 (length (canonical s)) refl (λ long. h (inl long))
-
--- what a statement that was run leaves
-pub record Committed (J : List Entry) (limit : ℕ) (new : Stored) (session : Session) (text : List ℕ) (p : Prepared) (r : Reply) : Type 0 where
+-- what a statement that was run leaves, of whatever text that is read as it
+pub record Committed (J : List Entry) (limit : ℕ) (new : Stored) (session : Session) (p : Prepared) (r : Reply) : Type 0 where
   pub stands : Stands (J ++ entries.Said p.said ∷ []) limit new
-  pub seated : IsSeated (J ++ entries.Said p.said ∷ []) (record session { said = session.said + 1 })
+  pub session_of : IsSessionOf (J ++ entries.Said p.said ∷ []) (record session { said = session.said + 1 })
   pub own : p.said.session ≡ session.number
-  pub placed : Placed (J ++ entries.Said p.said ∷ []) session.user text p.said.day (length J, p.said) (record { place = Some (length J); mark = mark_of p.stmt; reply = r })
+  pub placed : (text : List ℕ) → IsReadable text p.stmt → Placed (J ++ entries.Said p.said ∷ []) session.user text p.said.day (length J, p.said) (record { place = Some (length J); mark = mark_of p.stmt; reply = r })
 
-pub committed : (J : List Entry) (limit : ℕ) (stored new : Stored) (session : Session) (text : List ℕ) (p : Prepared) (r : Reply)
-    → Stands J limit stored → IsSeated J session → IsReady J limit stored session text p.said.day p → IsDay p.said.day → Did stored new session.user p.stmt r
-    → Committed J limit new session text p r
-committed J limit stored new session text p r stands seated ready today did =
+pub committed : (J : List Entry) (limit : ℕ) (stored new : Stored) (session : Session) (p : Prepared) (r : Reply)
+    → Stands J limit stored → IsSessionOf J session → IsReady J limit stored session p.said.day p → IsDay p.said.day → Did stored new session.user p.stmt r
+    → Committed J limit new session p r
+committed J limit stored new session p r stands session_of ready today did =
     let d : Said = p.said in
     let e : p.said ≡ record { session = session.number; number = session.said; user = session.user; groups = session.groups; day = p.said.day; text = canonical p.stmt } = ready.said in
     let own : d.session ≡ session.number = ap (λ (x : Said). x.session) e in
@@ -113,11 +105,11 @@ committed J limit stored new session text p r stands seated ready today did =
     let groups : d.groups ≡ session.groups = ap (λ (x : Said). x.groups) e in
     let said : d.text ≡ canonical p.stmt = ap (λ (x : Said). x.text) e in
     let S : State = stands.state in
-    let speaks : Speaks d.text p.stmt = (spoken text p.stmt ready.built.reads.reads, sym said) in
-    let short : length d.text ≤ 4096 = rw said (short_text p.stmt ready.built.reads.again) in
-    let opened : opened_by J d.session ≡ Some (d.user, d.groups) = rw (own, user, groups) seated.opened in
-    let counted : d.number ≡ said_by J d.session = rw (own, number) seated.counted in
-    let follows : FollowsSaid J d = record { stmt = p.stmt; speaks = speaks; short = short; day = today; opened = opened; counted = counted } in
+    let speaks : Speaks d.text p.stmt = (spoken (canonical p.stmt) p.stmt ready.again.reads, sym said) in
+    let readable : IsReadable d.text p.stmt = subst (λ (t : List ℕ). IsReadable t p.stmt) (sym said) ready.again in
+    let opened : opened_by J d.session ≡ Some (d.user, d.groups) = rw (own, user, groups) session_of.opened in
+    let counted : d.number ≡ said_by J d.session = rw (own, number) session_of.counted in
+    let follows : FollowsSaid J d = record { stmt = p.stmt; speaks = speaks; readable = readable; day = today; opened = opened; counted = counted } in
     let T : State = after (length J) S d.user d.groups d.day p.stmt in
     let steps : Steps (length J) S (entries.Said d) T = (p.stmt, speaks, refl) in
     let replay : Replay (J ++ entries.Said d ∷ []) T = runs_more 0 first J S (entries.Said d) T stands.replay (subst (λ (n : ℕ). Steps n S (entries.Said d) T) (sym (zero-add (length J))) steps) in
@@ -139,18 +131,18 @@ committed J limit stored new session text p r stands seated ready today did =
         cat = cat;
         tables = tables;
       };
-      seated = record {
-        opened = opened_more J (entries.Said d ∷ []) session.number (session.user, session.groups) seated.opened;
-        counted = rw (said_more J d session.number own) (ap (λ (n : ℕ). n + 1) seated.counted);
+      session_of = record {
+        opened = opened_more J (entries.Said d ∷ []) session.number (session.user, session.groups) session_of.opened;
+        counted = rw (said_more J d session.number own) (ap (λ (n : ℕ). n + 1) session_of.counted);
       };
       own = own;
-      placed = record {
+      placed = λ text reads. record {
         place = refl;
         there = there;
         stmt = p.stmt;
         state = S;
         before = before;
-        built = rw (stands.cat, stands.tables) ready.built;
+        built = record { reads = reads; built = rw (stands.cat, stands.tables) ready.built };
         said = said;
         today = refl;
         mark = refl;
@@ -160,22 +152,22 @@ committed J limit stored new session text p r stands seated ready today did =
 
 -- the same, said of the journal and the session as they stand afterwards
 pub added_of : (J K : List Entry) (limit : ℕ) (new : Stored) (session : Session) (text : List ℕ) (p : Prepared) (r : Reply) (a : Answer)
-    → Committed J limit new session text p r → K ≡ J ++ entries.Said p.said ∷ [] → a ≡ record { place = Some (length J); mark = mark_of p.stmt; reply = r }
+    → Committed J limit new session p r → IsReadable text p.stmt → K ≡ J ++ entries.Said p.said ∷ [] → a ≡ record { place = Some (length J); mark = mark_of p.stmt; reply = r }
     → Added J K session (record session { said = session.said + 1 }) text p.said.day a
-added_of J K limit new session text p r a h k e = record {
+added_of J K limit new session text p r a h reads k e = record {
   said = p.said;
   grown = k;
   own = h.own;
   counted = refl;
-  placed = rw (k, e) h.placed;
+  placed = rw (k, e) (h.placed text reads);
 }
 
-pub stands_of : (J K : List Entry) (limit : ℕ) (new : Stored) (session : Session) (text : List ℕ) (p : Prepared) (r : Reply) → Committed J limit new session text p r → K ≡ J ++ entries.Said p.said ∷ [] → Stands K limit new
-stands_of J K limit new session text p r h k = rw k h.stands
+pub stands_of : (J K : List Entry) (limit : ℕ) (new : Stored) (session : Session) (p : Prepared) (r : Reply) → Committed J limit new session p r → K ≡ J ++ entries.Said p.said ∷ [] → Stands K limit new
+stands_of J K limit new session p r h k = rw k h.stands
 
-pub seated_of : (J K : List Entry) (limit : ℕ) (new : Stored) (session : Session) (text : List ℕ) (p : Prepared) (r : Reply) → Committed J limit new session text p r → K ≡ J ++ entries.Said p.said ∷ []
-    → IsSeated K (record session { said = session.said + 1 })
-seated_of J K limit new session text p r h k = rw k h.seated
+pub session_grown : (J K : List Entry) (limit : ℕ) (new : Stored) (session : Session) (p : Prepared) (r : Reply) → Committed J limit new session p r → K ≡ J ++ entries.Said p.said ∷ []
+    → IsSessionOf K (record session { said = session.said + 1 })
+session_grown J K limit new session p r h k = rw k h.session_of
 
 -- nothing was added
 pub left_of : (J : List Entry) (limit : ℕ) (session : Session) (text : List ℕ) (a : Answer) → Unplaced J limit (length J) session.user text a → Left J J limit session session text a
@@ -220,8 +212,8 @@ stands_opened J K limit stored user groups h lt e =
     })
 
 -- the session that was opened now
-pub seated_opened : (J K : List Entry) (user : List ℕ) (groups : List (List ℕ)) (s : Session) → IsMade J → K ≡ J ++ entries.Open user groups ∷ [] → s.number ≡ opens J → s.said ≡ 0 → s.user ≡ user → s.groups ≡ groups → IsSeated K s
-seated_opened J K user groups s made e n none u g =
+pub session_opened : (J K : List Entry) (user : List ℕ) (groups : List (List ℕ)) (s : Session) → IsMade J → K ≡ J ++ entries.Open user groups ∷ [] → s.number ≡ opens J → s.said ≡ 0 → s.user ≡ user → s.groups ≡ groups → IsSessionOf K s
+session_opened J K user groups s made e n none u g =
     rw (e) (record {
       opened = rw (n, u, g) (opened_last J user groups);
       counted = rw (n, none) (sym (said_none J user groups made));

@@ -4,8 +4,8 @@ use Rattle.std.specs.Prelude.{ℤ}
 use Rattle.std.specs.Io.KnownBytes.{Appends}
 use Rattle.std.proofs.lemmas.List.{append-nil, take_all}
 use Rattle.std.proofs.lemmas.List.Concat.{flat_map-append}
-use Rattle.lb_wire.specs.Told.{Grows, AppendsPart}
-use Rattle.lb_wire.proofs.Told.{Grows-nil, Grows-then, Appends-then, AppendsPart-then}
+use Rattle.lb_wire.specs.Told.{GrewBy, AppendsPart}
+use Rattle.lb_wire.proofs.Told.{GrewBy-nil, GrewBy-then, Appends-then, AppendsPart-then}
 use Rattle.lb_model.specs.declared.entry.Entry.{Entry}
 use Rattle.lb_model.specs.declared.entry.Entry.TheVariants as entries
 use Rattle.lb_model.specs.declared.entry.Said.{Said}
@@ -17,12 +17,12 @@ use Rattle.lb_model.specs.Sections.{opened, section_text}
 use Rattle.lb_model.specs.Telling.{Telling}
 use Rattle.lb_model.proofs.Telling.{telling_first, telling_unplaced, telling_placed, ran_session}
 use Rattle.lb_model.proofs.Sessions.{opens_with_said}
-use Rattle.lb_refr.specs.Stored.{Stored}
+use Rattle.lb_front.specs.declared.book.Book.{Book}
 use Rattle.lb_front.specs.declared.book.Session.{Session}
-use Rattle.lb_front.specs.Booked.{Stands, IsSeated, IsOpened}
+use Rattle.lb_front.specs.Booked.{Stands, IsSessionOf, IsOpened}
 use Rattle.lb_front.specs.Executed.{Executed, ExecutedAt}
-use Rattle.lb_front.specs.Headline.{Outside}
-use Rattle.lb_front.specs.Running.{SectionRan, SectionPart, session_section, SessionProgress, IsSame, SessionLoops}
+use Rattle.lb_front.specs.Headline.{Outside, outside_of}
+use Rattle.lb_front.specs.Running.{SectionWritten, SectionPartWritten, session_section, SessionProgress, IsSame, SessionLoops}
 
 -- ---- what a statement adds
 
@@ -59,22 +59,22 @@ text_more limit s texts more days later ans a =
 -- ---- a statement more
 
 progress_more : (p : Option ℕ) (I J K : List Entry) (limit : ℕ) (s now after : Session) (texts : List (List ℕ)) (text : List ℕ) (day : ℤ) (a : Answer) (g0 g1 g2 : Option (List ℤ)) (w0 w1 w2 : Option (List ℕ))
-    → SessionProgress I J limit s texts (record { given = g0; given_now = g1; written = w0; written_now = w1 }) → IsSame s now → ExecutedAt p J K limit now after text day a → length K ≤ limit
-    → Grows g1 g2 (day ∷ []) → Appends w1 w2 (block_text a) → SessionProgress I K limit s (texts ++ text ∷ []) (record { given = g0; given_now = g2; written = w0; written_now = w2 })
+    → SessionProgress I J limit s texts (outside_of g0 g1 w0 w1) → IsSame s now → ExecutedAt p J K limit now after text day a → length K ≤ limit
+    → GrewBy g1 g2 (day ∷ []) → Appends w1 w2 (block_text a) → SessionProgress I K limit s (texts ++ text ∷ []) (outside_of g0 g2 w0 w2)
 progress_more p I J K limit s now after texts text day a g0 g1 g2 w0 w1 w2 h same x le g w =
     let whole = section_text limit (session_section s texts) (record { opening = opened s.place s.number; days = h.days; answers = h.answers }) in
     record {
       days = h.days ++ day ∷ [];
       answers = h.answers ++ a ∷ [];
       telling = telling_at p I J K limit s now after texts h.days h.answers text day a h.telling same x le;
-      clock = Grows-then g0 g1 g2 h.days (day ∷ []) h.clock g;
+      clock = GrewBy-then g0 g1 g2 h.days (day ∷ []) h.clock g;
       bytes = subst (λ (t : List ℕ). Appends w0 w2 t) (text_more limit s texts (texts ++ text ∷ []) h.days (h.days ++ day ∷ []) h.answers a) (Appends-then w0 w1 w2 whole (block_text a) h.bytes w);
     }
 
 -- the block of the last answer was not written whole
 part_more : (p : Option ℕ) (I J K : List Entry) (limit : ℕ) (s now after : Session) (all : List (List ℕ)) (i : ℕ) (text : List ℕ) (day : ℤ) (a : Answer) (g0 g1 g2 : Option (List ℤ)) (w0 w1 w2 : Option (List ℕ)) → s.place ≡ length I
-    → SessionProgress I J limit s (take i all) (record { given = g0; given_now = g1; written = w0; written_now = w1 }) → IsSame s now → ExecutedAt p J K limit now after text day a → length K ≤ limit → take (i + 1) all ≡ take i all ++ text ∷ []
-    → Grows g1 g2 (day ∷ []) → AppendsPart w1 w2 (block_text a) → SectionPart I K limit (session_section s all) (record { given = g0; given_now = g2; written = w0; written_now = w2 })
+    → SessionProgress I J limit s (take i all) (outside_of g0 g1 w0 w1) → IsSame s now → ExecutedAt p J K limit now after text day a → length K ≤ limit → take (i + 1) all ≡ take i all ++ text ∷ []
+    → GrewBy g1 g2 (day ∷ []) → AppendsPart w1 w2 (block_text a) → SectionPartWritten I K limit (session_section s all) (outside_of g0 g2 w0 w2)
 part_more p I J K limit s now after all i text day a g0 g1 g2 w0 w1 w2 at h same x le more g w =
     let texts : List (List ℕ) = take i all in
     let days : List ℤ = h.days ++ day ∷ [] in
@@ -83,9 +83,9 @@ part_more p I J K limit s now after all i text day a g0 g1 g2 w0 w1 w2 at h same
     let t : Telling I K limit s.number s.user s.groups (take (i + 1) all) days ans = rw more (telling_at p I J K limit s now after texts h.days h.answers text day a h.telling same x le) in
     record {
       count = i + 1;
-      outcome = record { opening = opened s.place s.number; days = days; answers = ans };
+      result = record { opening = opened s.place s.number; days = days; answers = ans };
       ran = rw at (ran_session I K limit s.number s.user s.groups (take (i + 1) all) days ans t);
-      clock = Grows-then g0 g1 g2 h.days (day ∷ []) h.clock g;
+      clock = GrewBy-then g0 g1 g2 h.days (day ∷ []) h.clock g;
       bytes = subst (λ (t : List ℕ). AppendsPart w0 w2 t) (text_more limit s texts (take (i + 1) all) h.days days h.answers a) (AppendsPart-then w0 w1 w2 whole (block_text a) h.bytes w);
     }
 
@@ -99,18 +99,18 @@ told_first I J limit s o made =
 header_alone : (limit : ℕ) (s : Session) (texts : List (List ℕ)) → header_text s.place s.number s.user ≡ section_text limit (session_section s texts) (record { opening = opened s.place s.number; days = []; answers = [] })
 header_alone limit s texts = sym (append-nil (header_text s.place s.number s.user))
 
-pub looping_first : (J : List Entry) (limit : ℕ) (stored : Stored) (s : Session) (all : List (List ℕ)) (g : Option (List ℤ)) (w0 w1 : Option (List ℕ)) (sessions f0 f1 : ℕ) → Stands J limit stored → IsSeated J s
-    → Appends w0 w1 (header_text s.place s.number s.user) → f0 ≤ f1 → SessionLoops J J limit stored s s (take 0 all) (record { given = g; given_now = g; written = w0; written_now = w1 }) limit sessions sessions f0 f1
-looping_first J limit stored s all g w0 w1 sessions f0 f1 stands seated w le = record {
+pub looping_first : (b : Book) (s : Session) (all : List (List ℕ)) (g : Option (List ℤ)) (w0 w1 : Option (List ℕ)) (f0 f1 : ℕ) → Stands b.journal.items b.limit b.store → IsSessionOf b.journal.items s
+    → Appends w0 w1 (header_text s.place s.number s.user) → f0 ≤ f1 → SessionLoops b b s s (take 0 all) (outside_of g g w0 w1) f0 f1
+looping_first b s all g w0 w1 f0 f1 stands session_of w le = record {
   progress = λ I o made. record {
     days = [];
     answers = [];
-    telling = told_first I J limit s o made;
-    clock = Grows-nil g;
-    bytes = subst (λ (t : List ℕ). Appends w0 w1 t) (header_alone limit s []) w;
+    telling = told_first I b.journal.items b.limit s o made;
+    clock = GrewBy-nil g;
+    bytes = subst (λ (t : List ℕ). Appends w0 w1 t) (header_alone b.limit s []) w;
   };
   stands = stands;
-  seated = seated;
+  session_of = session_of;
   same = record { place = refl; number = refl; user = refl; groups = refl };
   same_opens = refl;
   same_limit = refl;
@@ -118,16 +118,20 @@ looping_first J limit stored s all g w0 w1 sessions f0 f1 stands seated w le = r
   later = le;
 }
 
-pub looping_on : (J0 J K : List Entry) (limit limit_now : ℕ) (stored stored_now : Stored) (s now after : Session) (all : List (List ℕ)) (i : ℕ) (text : List ℕ) (day : ℤ) (a : Answer) (g0 g1 g2 : Option (List ℤ)) (w0 w1 w2 : Option (List ℕ)) (l0 n0 n1 n2 f0 f1 f2 : ℕ)
-    → SessionLoops J0 J limit stored s now (take i all) (record { given = g0; given_now = g1; written = w0; written_now = w1 }) l0 n0 n1 f0 f1 → take (i + 1) all ≡ take i all ++ text ∷ []
-    → Executed J K limit now after text day a → Stands K limit_now stored_now → IsSeated K after → limit_now ≡ limit → n2 ≡ n1 → Grows g1 g2 (day ∷ []) → Appends w1 w2 (block_text a) → f1 ≤ f2
-    → SessionLoops J0 K limit_now stored_now s after (take (i + 1) all) (record { given = g0; given_now = g2; written = w0; written_now = w2 }) l0 n0 n2 f0 f2
-looping_on J0 J K limit limit_now stored stored_now s now after all i text day a g0 g1 g2 w0 w1 w2 l0 n0 n1 n2 f0 f1 f2 h more x stands seated same n g w le =
+pub looping_on : (first b book : Book) (s now after : Session) (all : List (List ℕ)) (i : ℕ) (text : List ℕ) (day : ℤ) (a : Answer) (g0 g1 g2 : Option (List ℤ)) (w0 w1 w2 : Option (List ℕ)) (f0 f1 f2 : ℕ)
+    → SessionLoops first b s now (take i all) (outside_of g0 g1 w0 w1) f0 f1 → take (i + 1) all ≡ take i all ++ text ∷ []
+    → Executed b.journal.items book.journal.items b.limit now after text day a → Stands book.journal.items book.limit book.store → IsSessionOf book.journal.items after → book.limit ≡ b.limit → book.sessions ≡ b.sessions
+    → GrewBy g1 g2 (day ∷ []) → Appends w1 w2 (block_text a) → f1 ≤ f2
+    → SessionLoops first book s after (take (i + 1) all) (outside_of g0 g2 w0 w2) f0 f2
+looping_on first b book s now after all i text day a g0 g1 g2 w0 w1 w2 f0 f1 f2 h more x stands session_of same n g w le =
+    let J : List Entry = b.journal.items in
+    let K : List Entry = book.journal.items in
+    let limit : ℕ = b.limit in
     let within : length K ≤ limit = subst (λ (m : ℕ). length K ≤ m) same stands.within in
     record {
       progress = λ I o made. rw (more, same) (progress_more a.place I J K limit s now after (take i all) text day a g0 g1 g2 w0 w1 w2 (h.progress I o made) h.same x within g w);
       stands = stands;
-      seated = seated;
+      session_of = session_of;
       same = same_at a.place s now after J K limit text day a h.same x;
       same_opens = opens_at a.place now after J K limit text day a x ∙ h.same_opens;
       same_limit = same ∙ h.same_limit;
@@ -135,33 +139,38 @@ looping_on J0 J K limit limit_now stored stored_now s now after all i text day a
       later = omega (arith, h.later, le);
     }
 
-pub looping_cut : (J0 J K : List Entry) (limit limit_now : ℕ) (stored stored_now : Stored) (s now after : Session) (all : List (List ℕ)) (i : ℕ) (text : List ℕ) (day : ℤ) (a : Answer) (g0 g1 g2 : Option (List ℤ)) (w0 w1 w2 : Option (List ℕ)) (l0 n0 n1 f0 f1 : ℕ)
-    → SessionLoops J0 J limit stored s now (take i all) (record { given = g0; given_now = g1; written = w0; written_now = w1 }) l0 n0 n1 f0 f1 → take (i + 1) all ≡ take i all ++ text ∷ []
-    → Executed J K limit now after text day a → Stands K limit_now stored_now → limit_now ≡ limit → Grows g1 g2 (day ∷ []) → AppendsPart w1 w2 (block_text a)
-    → (I : List Entry) → IsOpened I J0 s.user s.groups s → IsMade I → SectionPart I K l0 (session_section s all) (record { given = g0; given_now = g2; written = w0; written_now = w2 })
-looping_cut J0 J K limit limit_now stored stored_now s now after all i text day a g0 g1 g2 w0 w1 w2 l0 n0 n1 f0 f1 h more x stands same g w I o made =
+pub looping_cut : (first b book : Book) (s now after : Session) (all : List (List ℕ)) (i : ℕ) (text : List ℕ) (day : ℤ) (a : Answer) (g0 g1 g2 : Option (List ℤ)) (w0 w1 w2 : Option (List ℕ)) (f0 f1 : ℕ)
+    → SessionLoops first b s now (take i all) (outside_of g0 g1 w0 w1) f0 f1 → take (i + 1) all ≡ take i all ++ text ∷ []
+    → Executed b.journal.items book.journal.items b.limit now after text day a → Stands book.journal.items book.limit book.store → book.limit ≡ b.limit → GrewBy g1 g2 (day ∷ []) → AppendsPart w1 w2 (block_text a)
+    → (I : List Entry) → IsOpened I first.journal.items s.user s.groups s → IsMade I → SectionPartWritten I book.journal.items first.limit (session_section s all) (outside_of g0 g2 w0 w2)
+looping_cut first b book s now after all i text day a g0 g1 g2 w0 w1 w2 f0 f1 h more x stands same g w I o made =
+    let J : List Entry = b.journal.items in
+    let K : List Entry = book.journal.items in
+    let limit : ℕ = b.limit in
     let within : length K ≤ limit = subst (λ (m : ℕ). length K ≤ m) same stands.within in
     rw (← h.same_limit) (part_more a.place I J K limit s now after all i text day a g0 g1 g2 w0 w1 w2 o.place (h.progress I o made) h.same x within more g w)
 
 -- the line of the section was not written whole
 pub not_begun : (J : List Entry) (limit : ℕ) (s : Session) (all : List (List ℕ)) (g : Option (List ℤ)) (w0 w1 : Option (List ℕ)) → AppendsPart w0 w1 (header_text s.place s.number s.user)
-    → (I : List Entry) → IsOpened I J s.user s.groups s → IsMade I → SectionPart I J limit (session_section s all) (record { given = g; given_now = g; written = w0; written_now = w1 })
+    → (I : List Entry) → IsOpened I J s.user s.groups s → IsMade I → SectionPartWritten I J limit (session_section s all) (outside_of g g w0 w1)
 not_begun J limit s all g w0 w1 w I o made = record {
   count = 0;
-  outcome = record { opening = opened s.place s.number; days = []; answers = [] };
+  result = record { opening = opened s.place s.number; days = []; answers = [] };
   ran = rw o.place (ran_session I J limit s.number s.user s.groups [] [] [] (told_first I J limit s o made));
-  clock = Grows-nil g;
+  clock = GrewBy-nil g;
   bytes = subst (λ (t : List ℕ). AppendsPart w0 w1 t) (header_alone limit s []) w;
 }
 
 -- no statement is left
-pub ended : (J0 J : List Entry) (limit : ℕ) (stored : Stored) (s now : Session) (all : List (List ℕ)) (i : ℕ) (o : Outside) (l0 n0 n1 f0 f1 : ℕ) → SessionLoops J0 J limit stored s now (take i all) o l0 n0 n1 f0 f1 → length all ≤ i
-    → (I : List Entry) → IsOpened I J0 s.user s.groups s → IsMade I → SectionRan I J l0 (session_section s all) o
-ended J0 J limit stored s now all i o l0 n0 n1 f0 f1 h le I p made =
+pub ended : (first b : Book) (s now : Session) (all : List (List ℕ)) (i : ℕ) (o : Outside) (f0 f1 : ℕ) → SessionLoops first b s now (take i all) o f0 f1 → length all ≤ i
+    → (I : List Entry) → IsOpened I first.journal.items s.user s.groups s → IsMade I → SectionWritten I b.journal.items first.limit (session_section s all) o
+ended first b s now all i o f0 f1 h le I p made =
+    let J : List Entry = b.journal.items in
+    let l0 : ℕ = first.limit in
     let whole : take i all ≡ all = take_all i all le in
     let q : SessionProgress I J l0 s all o = rw (← h.same_limit, ← whole) (h.progress I p made) in
     record {
-      outcome = record { opening = opened s.place s.number; days = q.days; answers = q.answers };
+      result = record { opening = opened s.place s.number; days = q.days; answers = q.answers };
       ran = rw p.place (ran_session I J l0 s.number s.user s.groups all q.days q.answers q.telling);
       clock = q.clock;
       bytes = q.bytes;

@@ -8,7 +8,7 @@ use Rattle.lb_wire.proofs.Told.{Appends-then, AppendsPart-then}
 use Rattle.lb_model.specs.declared.reply.Answer.{Answer}
 use Rattle.lb_model.specs.Out.{block_text, full_text}
 use Rattle.lb_model.specs.Sections.{AreShut}
-use Rattle.lb_front.specs.Running.{IsShutAnswer, shut_text, ShutRan, ShutPart, ShutLoops}
+use Rattle.lb_front.specs.Running.{IsShutAnswer, shut_text, ShutWritten, ShutPartWritten, ShutLoops}
 
 -- ---- answers one after the other
 
@@ -32,7 +32,7 @@ shut_first limit all w0 w1 f0 f1 w le = record {
   later = le;
 }
 
-pub shut_not_begun : (limit : ℕ) (all : List (List ℕ)) (w0 w1 : Option (List ℕ)) → AppendsPart w0 w1 (full_text limit) → ShutPart limit all w0 w1
+pub shut_not_begun : (limit : ℕ) (all : List (List ℕ)) (w0 w1 : Option (List ℕ)) → AppendsPart w0 w1 (full_text limit) → ShutPartWritten limit all w0 w1
 shut_not_begun limit all w0 w1 w = record { count = 0; answers = []; shut = tt; bytes = subst (λ (t : List ℕ). AppendsPart w0 w1 t) (line_alone limit) w }
 
 pub shut_on : (limit : ℕ) (all : List (List ℕ)) (i : ℕ) (text : List ℕ) (a : Answer) (w0 w1 w2 : Option (List ℕ)) (f0 f1 f2 : ℕ) → ShutLoops limit (take i all) w0 w1 f0 f1 → take (i + 1) all ≡ take i all ++ text ∷ []
@@ -47,7 +47,7 @@ shut_on limit all i text a w0 w1 w2 f0 f1 f2 h more s w le = record {
 }
 
 pub shut_cut : (limit : ℕ) (all : List (List ℕ)) (i : ℕ) (text : List ℕ) (a : Answer) (w0 w1 w2 : Option (List ℕ)) (f0 f1 : ℕ) → ShutLoops limit (take i all) w0 w1 f0 f1 → take (i + 1) all ≡ take i all ++ text ∷ []
-    → IsShutAnswer limit text a → AppendsPart w1 w2 (block_text a) → ShutPart limit all w0 w2
+    → IsShutAnswer limit text a → AppendsPart w1 w2 (block_text a) → ShutPartWritten limit all w0 w2
 shut_cut limit all i text a w0 w1 w2 f0 f1 h more s w = record {
   count = i + 1;
   answers = h.ran.answers ++ a ∷ [];
@@ -55,5 +55,5 @@ shut_cut limit all i text a w0 w1 w2 f0 f1 h more s w = record {
   bytes = subst (λ (t : List ℕ). AppendsPart w0 w2 t) (text_more limit h.ran.answers a) (AppendsPart-then w0 w1 w2 (shut_text limit h.ran.answers) (block_text a) h.ran.bytes w);
 }
 
-pub shut_ended : (limit : ℕ) (all : List (List ℕ)) (i : ℕ) (w0 w1 : Option (List ℕ)) (f0 f1 : ℕ) → ShutLoops limit (take i all) w0 w1 f0 f1 → length all ≤ i → ShutRan limit all w0 w1
+pub shut_ended : (limit : ℕ) (all : List (List ℕ)) (i : ℕ) (w0 w1 : Option (List ℕ)) (f0 f1 : ℕ) → ShutLoops limit (take i all) w0 w1 f0 f1 → length all ≤ i → ShutWritten limit all w0 w1
 shut_ended limit all i w0 w1 f0 f1 h le = rw (← take_all i all le) h.ran

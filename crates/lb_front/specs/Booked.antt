@@ -21,7 +21,7 @@ pub record Stands (J : List Entry) (limit : ℕ) (stored : Stored) : Type 0 wher
   pub tables : state.tables ≡ stored.tables
 
 -- the session was opened in the journal by its user with its groups, and has as many statements there as it counts
-pub record IsSeated (J : List Entry) (s : Session) : Type 0 where
+pub record IsSessionOf (J : List Entry) (s : Session) : Type 0 where
   pub opened : opened_by J s.number ≡ Some (s.user, s.groups)
   pub counted : s.said ≡ said_by J s.number
 
@@ -34,7 +34,7 @@ pub record IsOpened (J K : List Entry) (user : List ℕ) (groups : List (List �
   pub of_groups : s.groups ≡ groups
 
 -- why a session was not opened: memory was refused, or the journal has as many entries as it may have
-abbrev pub IsShut : List Entry → ℕ → Stop → Type 0
-IsShut J limit stops.NoMemory = Unit {0}
-IsShut J limit (stops.JournalFull n) = (n ≡ limit) × (length J ≡ limit)
-IsShut J limit _ = ⊥
+abbrev pub IsOpenRefused : List Entry → ℕ → Stop → Type 0
+IsOpenRefused J limit stops.NoMemory = Unit {0}
+IsOpenRefused J limit (stops.JournalFull n) = (n ≡ limit) × (length J ≡ limit)
+IsOpenRefused J limit _ = ⊥

@@ -4,14 +4,14 @@ use Rattle.lb_stmt.specs.declared.write.Stmt.{Stmt}
 use Rattle.lb_tok.specs.declared.lex.ReadFault.{ReadFault}
 use Rattle.lb_tok.specs.declared.lex.ReadFault.TheVariants as faults
 use Rattle.lb_tok.specs.Canonical.{canonical}
-use Rattle.lb_tok.specs.Syntax.{IsSyntaxAt}
+use Rattle.lb_tok.specs.Syntax.{IsReadable, IsSyntaxAt}
 use Rattle.lb_model.specs.declared.entry.Entry.{Entry}
 use Rattle.lb_model.specs.declared.reply.Reply.{Reply}
 use Rattle.lb_model.specs.declared.reply.Reply.TheVariants as replies
 use Rattle.lb_model.specs.declared.refusal.Refusal.TheVariants as refusals
 use Rattle.lb_model.specs.Answer.{is_query}
 use Rattle.lb_model.specs.Step.{outcome}
-use Rattle.lb_model.specs.NotYet.{IsNotYet, IsBuilt, rows_given}
+use Rattle.lb_model.specs.NotYet.{IsUnbuilt, IsNotYet, IsBuilt, rows_given}
 use Rattle.lb_refr.specs.Stored.{Stored}
 use Rattle.lb_front.specs.declared.stop.Stop.{Stop}
 use Rattle.lb_front.specs.declared.stop.Stop.TheVariants as stops
@@ -23,9 +23,11 @@ abbrev pub stop_of : ReadFault → Stop
 stop_of (faults.Syntax at) = stops.Syntax at
 stop_of faults.NoMemory = stops.NoMemory
 
--- the statement of the text is built, its rows are there, its entry is that of the session's next statement, and there is room for it
-pub record IsReady (J : List Entry) (limit : ℕ) (stored : Stored) (session : Session) (text : List ℕ) (day : ℤ) (p : Prepared) : Type 0 where
-  pub built : IsBuilt stored.cat stored.tables session.user text p.stmt
+-- The statement can be read from its canonical text and is built, its rows are there, its entry is that of the session's next statement, and
+-- there is room for it.
+pub record IsReady (J : List Entry) (limit : ℕ) (stored : Stored) (session : Session) (day : ℤ) (p : Prepared) : Type 0 where
+  pub again : IsReadable (canonical p.stmt) p.stmt
+  pub built : IsUnbuilt stored.cat stored.tables session.user p.stmt → ⊥
   pub rows : p.rows ≡ rows_given p.stmt
   pub said : p.said ≡ record { session = session.number; number = session.said; user = session.user; groups = session.groups; day = day; text = canonical p.stmt }
   pub room : length J < limit

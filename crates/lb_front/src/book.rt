@@ -1,12 +1,13 @@
 // The journal of a run, its sessions, and the one call by which a session's statement is run.
-ghost use Rattle.std.specs.Prelude.{◌≡◌, ◌<◌, ◌^◌, [], length, IfOk, IfErr, OnOk, OnErr, Some};
+ghost use Rattle.std.specs.Prelude.{◌≡◌, ◌<◌, ◌^◌, ℕ, List, [], length, IfOk, IfErr, OnOk, OnErr, Some};
 ghost use Rattle.lb_wire.specs.Days.{IsDay};
+ghost use Rattle.lb_tok.specs.Syntax.{IsReadable};
 ghost use Rattle.lb_model.specs.declared.entry.Entry.TheVariants as entries;
 ghost use Rattle.lb_model.specs.Answer.{is_query as reads_only};
 ghost use Rattle.lb_model.specs.Journal.{opens};
 ghost use Rattle.lb_model.specs.NotYet.{rows_given};
 ghost use Rattle.lb_model.specs.Told.{mark_of as marked};
-ghost use Rattle.lb_front.specs.Booked.{Stands, IsSeated, IsOpened, IsShut};
+ghost use Rattle.lb_front.specs.Booked.{Stands, IsSessionOf, IsOpened, IsOpenRefused};
 ghost use Rattle.lb_front.specs.Executed.{Executed, Added};
 ghost use Rattle.lb_front.specs.Prepared.{IsReady, IsStopped, Did};
 
@@ -73,8 +74,8 @@ impl Book {
         requires stands { Stands self.old.journal.items self.old.limit self.old.store }
         requires counted { self.old.sessions ≡ opens self.old.journal.items }
         ensures opened { IfOk result (IsOpened self.old.journal.items self.new.journal.items user.now groups.now) }
-        ensures seated { IfOk result (IsSeated self.new.journal.items) }
-        ensures shut { IfErr result (IsShut self.old.journal.items self.old.limit) }
+        ensures session_of { IfOk result (IsSessionOf self.new.journal.items) }
+        ensures shut { IfErr result (IsOpenRefused self.old.journal.items self.old.limit) }
         ensures same { OnErr result ((self.new.journal.items ≡ self.old.journal.items) × (self.new.store ≡ self.old.store)) }
         ensures counted { self.new.sessions ≡ opens self.new.journal.items }
         ensures limit { self.new.limit ≡ self.old.limit }
@@ -104,16 +105,16 @@ impl Book {
     /// Runs one statement of a session on a day. The journal grows by at most one entry.
     pub fn execute(&mut self, alloc: Global, session: &mut Session, day: i32, text: &[u8]) -> Answer
         requires stands { Stands self.old.journal.items self.old.limit self.old.store }
-        requires seated { IsSeated self.old.journal.items session.old }
+        requires session_of { IsSessionOf self.old.journal.items session.old }
         requires today { IsDay day }
         ensures ran { Executed self.old.journal.items self.new.journal.items self.old.limit session.old session.new text.now day result }
         ensures stands { Stands self.new.journal.items self.new.limit self.new.store }
-        ensures seated { IsSeated self.new.journal.items session.new }
+        ensures session_of { IsSessionOf self.new.journal.items session.new }
         ensures sessions { self.new.sessions ≡ self.old.sessions }
         ensures limit { self.new.limit ≡ self.old.limit }
     {
         match self.prepare(alloc, session, day, text) {
-            Ok(prepared) => match self.commit(alloc, session, text, prepared) {
+            Ok(prepared) => match self.commit(alloc, session, prepared) {
                 Ok(answer) => answer,
                 Err(_) => unplaced(Stop::NoMemory),
             },
@@ -130,7 +131,8 @@ impl Book {
         text: &[u8],
     ) -> Result<Prepared, Stop>
         requires stands { Stands self.now.journal.items self.now.limit self.now.store }
-        ensures ready { IfOk result (λ p. IsReady self.now.journal.items self.now.limit self.now.store session.now text.now day p) }
+        ensures read { IfOk result (λ p. IsReadable text.now p.stmt) }
+        ensures ready { IfOk result (λ p. IsReady self.now.journal.items self.now.limit self.now.store session.now day p) }
         ensures stopped { IfErr result (λ s. IsStopped self.now.journal.items self.now.limit self.now.store session.now.user text.now s) }
     {
         let Readable { stmt, text } = readable(alloc, text)?;
@@ -145,27 +147,26 @@ impl Book {
         Ok(Prepared { stmt, rows, said })
     }
 
-    /// Runs the statement and adds its entry. Where memory is refused nothing changes.
+    /// Runs the statement and adds its entry; its answer is that of each text that is read as the statement. Where memory
+    /// is refused nothing changes.
     fn commit(
         &mut self,
         alloc: Global,
         session: &mut Session,
-        text: &[u8],
         prepared: Prepared,
     ) -> Result<Answer, NoMemory>
         requires stands { Stands self.old.journal.items self.old.limit self.old.store }
-        requires seated { IsSeated self.old.journal.items session.old }
-        requires ready { IsReady self.old.journal.items self.old.limit self.old.store session.old text.now prepared.said.day prepared }
+        requires session_of { IsSessionOf self.old.journal.items session.old }
+        requires ready { IsReady self.old.journal.items self.old.limit self.old.store session.old prepared.said.day prepared }
         requires today { IsDay prepared.said.day }
-        ensures added { IfOk result (λ a. Added self.old.journal.items self.new.journal.items session.old session.new text.now prepared.said.day a) }
+        ensures added { (text : List ℕ) → IsReadable text prepared.stmt → IfOk result (λ a. Added self.old.journal.items self.new.journal.items session.old session.new text prepared.said.day a) }
         ensures place { IfOk result (λ a. a.place ≡ Some (length self.old.journal.items)) }
         ensures stands { OnOk result (Stands self.new.journal.items self.new.limit self.new.store) }
-        ensures seated { OnOk result (IsSeated self.new.journal.items session.new) }
+        ensures session_of { OnOk result (IsSessionOf self.new.journal.items session.new) }
         ensures limit { self.new.limit ≡ self.old.limit }
         ensures sessions { self.new.sessions ≡ self.old.sessions }
         ensures err { OnErr result ((self.new.journal.items ≡ self.old.journal.items) × (self.new.store ≡ self.old.store) × (session.new ≡ session.old)) }
     {
-        let _ = text;
         let Prepared { stmt, rows, said } = prepared;
         self.journal.reserve(1)?;
         let reply = run(alloc, &mut self.store, &session.user, &stmt, rows)?;

@@ -4,7 +4,8 @@ ghost use Rattle.std.specs.Io.KnownBytes.{Appends};
 ghost use Rattle.lb_model.specs.Out.{bad_script_text};
 ghost use Rattle.lb_wire.specs.Causes.{Rose};
 ghost use Rattle.lb_wire.specs.declared.status.Status.TheVariants as statuses;
-ghost use Rattle.lb_front.specs.Headline.{Ends, IsAnswered, IsRunnable};
+ghost use Rattle.lb_wire.specs.Inputs.{IsRunnable};
+ghost use Rattle.lb_front.specs.Headline.{Ends, IsAnswered, outside_of};
 ghost use Rattle.lb_front.specs.Scripted.{sections_in};
 ghost use Rattle.lb_front.specs.Running.{ScriptEnds, BrokenEnds};
 
@@ -13,11 +14,8 @@ use crate::output::{Cut, put_bad_script, status_of};
 use crate::section::run_sections;
 use lb_base::Str;
 use lb_split::{Script, ScriptFault, sections};
-use lb_wire::{Clock, ReadFault, Sink, Source, Status, read_all};
+use lb_wire::{Clock, InputFault, MOST_INPUT_BYTES, Sink, Source, Status, read_all};
 use std::alloc::Global;
-
-/// The most bytes of an input.
-const MOST_BYTES: usize = 16_777_216;
 
 /// The most entries of the journal.
 const MOST_ENTRIES: u64 = 1_048_576;
@@ -32,10 +30,11 @@ pub fn run_alone<S: Source, K: Sink, C: Clock>(
     clock: &mut C,
 ) -> Status
     ensures words { (result ≡ statuses.BadWords) ↔ ((words.now ≡ codes "run" ∷ []) → ⊥) }
+    ensures untouched { result ≡ statuses.BadWords → (source.new ≡ source.old) × (sink.new ≡ sink.old) × (clock.new ≡ clock.old) }
     ensures read { result ≡ statuses.ReadFault → Rose (S.faults source.old) (S.faults source.new) }
     ensures write { result ≡ statuses.WriteFault → Rose (K.faults sink.old) (K.faults sink.new) }
     ensures line { (n : ℕ) → result ≡ statuses.BadScript n → Appends (K.written sink.old) (K.written sink.new) (bad_script_text n) ⊎ Rose (K.faults sink.old) (K.faults sink.new) }
-    ensures ends { Ends result 1048576 (S.left source.old) (S.left source.new) (record { given = C.given clock.old; given_now = C.given clock.new; written = K.written sink.old; written_now = K.written sink.new }) }
+    ensures ends { Ends result 1048576 (S.left source.old) (S.left source.new) (outside_of (C.given clock.old) (C.given clock.new) (K.written sink.old) (K.written sink.new)) }
     ensures complete { words.now ≡ codes "run" ∷ [] → IsRunnable (S.left source.old) → (Rose (S.faults source.old) (S.faults source.new) → ⊥) → (Rose (K.faults sink.old) (K.faults sink.new) → ⊥) → IsAnswered result }
 {
     if !is_run(words) {
@@ -67,14 +66,14 @@ pub fn run_within<S: Source, K: Sink, C: Clock>(
     ensures read { result ≡ statuses.ReadFault → Rose (S.faults source.old) (S.faults source.new) }
     ensures write { result ≡ statuses.WriteFault → Rose (K.faults sink.old) (K.faults sink.new) }
     ensures line { (n : ℕ) → result ≡ statuses.BadScript n → Appends (K.written sink.old) (K.written sink.new) (bad_script_text n) ⊎ Rose (K.faults sink.old) (K.faults sink.new) }
-    ensures ends { Ends result limit (S.left source.old) (S.left source.new) (record { given = C.given clock.old; given_now = C.given clock.new; written = K.written sink.old; written_now = K.written sink.new }) }
+    ensures ends { Ends result limit (S.left source.old) (S.left source.new) (outside_of (C.given clock.old) (C.given clock.new) (K.written sink.old) (K.written sink.new)) }
     ensures complete { IsRunnable (S.left source.old) → (Rose (S.faults source.old) (S.faults source.new) → ⊥) → (Rose (K.faults sink.old) (K.faults sink.new) → ⊥) → IsAnswered result }
 {
-    let input = match read_all(alloc, source, MOST_BYTES) {
+    let input = match read_all(alloc, source, MOST_INPUT_BYTES) {
         Ok(input) => input,
-        Err(ReadFault::Failed) => return Status::ReadFault,
-        Err(ReadFault::TooLong) => return Status::TooLong,
-        Err(ReadFault::NoMemory) => return Status::NoMemory,
+        Err(InputFault::Failed) => return Status::ReadFault,
+        Err(InputFault::TooLong) => return Status::TooLong,
+        Err(InputFault::NoMemory) => return Status::NoMemory,
     };
     match sections(alloc, &input) {
         Ok(script) => run_script(alloc, limit, &input, script, sink, clock),
@@ -107,7 +106,7 @@ fn run_script<K: Sink, C: Clock>(
 ) -> Status
     requires bounded { limit < 2 ^ 32 }
     ensures write { result ≡ statuses.WriteFault → Rose (K.faults sink.old) (K.faults sink.new) }
-    ensures ends { ScriptEnds result limit (sections_in bytes.now script) (record { given = C.given clock.old; given_now = C.given clock.new; written = K.written sink.old; written_now = K.written sink.new }) }
+    ensures ends { ScriptEnds result limit (sections_in bytes.now script) (outside_of (C.given clock.old) (C.given clock.new) (K.written sink.old) (K.written sink.new)) }
 {
     let mut book = Book::empty(alloc, limit);
     match run_sections(

@@ -1,13 +1,13 @@
 // The run of one section.
-ghost use Rattle.std.specs.Prelude.{◌≡◌, ◌≤◌, ◌<◌, List, map, OnOk, OnErr, Err};
+ghost use Rattle.std.specs.Prelude.{◌≡◌, ◌≤◌, map, OnOk, OnErr, Err};
 ghost use Rattle.lb_wire.specs.Causes.{Rose};
-ghost use Rattle.lb_model.specs.declared.entry.Entry.{Entry};
-ghost use Rattle.lb_model.specs.Journal.{IsMade, opens};
-ghost use Rattle.lb_front.specs.Booked.{Stands, IsSeated, IsOpened};
+ghost use Rattle.lb_model.specs.Journal.{opens};
+ghost use Rattle.lb_front.specs.Booked.{Stands, IsSessionOf};
 ghost use Rattle.lb_split.specs.Scripts.{text_in};
+ghost use Rattle.lb_front.specs.Headline.{outside_of};
 ghost use Rattle.lb_front.specs.Scripted.{section_in};
 ghost use Rattle.lb_front.specs.declared.output.Cut.TheVariants as cuts;
-ghost use Rattle.lb_front.specs.Running.{SectionRan, SectionCut, SectionPart, ShutRan, ShutPart, IsShutAnswer, session_section, RanBehind, CutBehind};
+ghost use Rattle.lb_front.specs.Running.{SectionWritten, SectionCut, SessionWritten, SessionPartWritten, ShutWritten, ShutPartWritten, IsShutAnswer, WrittenAfter, CutAfter};
 
 use crate::book::{Book, Session};
 use crate::output::{Cut, put_block, put_full, put_header};
@@ -29,8 +29,8 @@ pub fn run_sections<K: Sink, C: Clock>(
 ) -> Result<(), Cut>
     requires stands { Stands book.old.journal.items book.old.limit book.old.store }
     requires counted { book.old.sessions ≡ opens book.old.journal.items }
-    ensures ran { OnOk result (RanBehind book.old.journal.items book.new.journal.items book.old.limit (map (section_in bytes.now) sections.now) (record { given = C.given clock.old; given_now = C.given clock.new; written = K.written sink.old; written_now = K.written sink.new })) }
-    ensures cut { OnErr result (CutBehind book.old.journal.items book.old.limit (map (section_in bytes.now) sections.now) (record { given = C.given clock.old; given_now = C.given clock.new; written = K.written sink.old; written_now = K.written sink.new })) }
+    ensures ran { OnOk result (WrittenAfter book.old.journal.items book.new.journal.items book.old.limit (map (section_in bytes.now) sections.now) (outside_of (C.given clock.old) (C.given clock.new) (K.written sink.old) (K.written sink.new))) }
+    ensures cut { OnErr result (CutAfter book.old.journal.items book.old.limit (map (section_in bytes.now) sections.now) (outside_of (C.given clock.old) (C.given clock.new) (K.written sink.old) (K.written sink.new))) }
     ensures stands { Stands book.new.journal.items book.new.limit book.new.store }
     ensures counted { book.new.sessions ≡ opens book.new.journal.items }
     ensures limit { book.new.limit ≡ book.old.limit }
@@ -58,8 +58,8 @@ fn run_section<K: Sink, C: Clock>(
 ) -> Result<(), Cut>
     requires stands { Stands book.old.journal.items book.old.limit book.old.store }
     requires counted { book.old.sessions ≡ opens book.old.journal.items }
-    ensures ran { OnOk result (SectionRan book.old.journal.items book.new.journal.items book.old.limit (section_in bytes.now section.now) (record { given = C.given clock.old; given_now = C.given clock.new; written = K.written sink.old; written_now = K.written sink.new })) }
-    ensures cut { OnErr result (SectionCut book.old.journal.items book.new.journal.items book.old.limit (section_in bytes.now section.now) (record { given = C.given clock.old; given_now = C.given clock.new; written = K.written sink.old; written_now = K.written sink.new })) }
+    ensures ran { OnOk result (SectionWritten book.old.journal.items book.new.journal.items book.old.limit (section_in bytes.now section.now) (outside_of (C.given clock.old) (C.given clock.new) (K.written sink.old) (K.written sink.new))) }
+    ensures cut { OnErr result (SectionCut book.old.journal.items book.new.journal.items book.old.limit (section_in bytes.now section.now) (outside_of (C.given clock.old) (C.given clock.new) (K.written sink.old) (K.written sink.new))) }
     ensures stands { Stands book.new.journal.items book.new.limit book.new.store }
     ensures counted { book.new.sessions ≡ opens book.new.journal.items }
     ensures limit { book.new.limit ≡ book.old.limit }
@@ -96,9 +96,9 @@ fn run_session<K: Sink, C: Clock>(
     clock: &mut C,
 ) -> Result<(), Cut>
     requires stands { Stands book.old.journal.items book.old.limit book.old.store }
-    requires seated { IsSeated book.old.journal.items session }
-    ensures ran { OnOk result ((J : List Entry) → IsOpened J book.old.journal.items session.user session.groups session → IsMade J → SectionRan J book.new.journal.items book.old.limit (session_section session (map (text_in bytes.now) statements.now)) (record { given = C.given clock.old; given_now = C.given clock.new; written = K.written sink.old; written_now = K.written sink.new })) }
-    ensures cut { OnErr result ((J : List Entry) → IsOpened J book.old.journal.items session.user session.groups session → IsMade J → SectionPart J book.new.journal.items book.old.limit (session_section session (map (text_in bytes.now) statements.now)) (record { given = C.given clock.old; given_now = C.given clock.new; written = K.written sink.old; written_now = K.written sink.new })) }
+    requires session_of { IsSessionOf book.old.journal.items session }
+    ensures ran { OnOk result (SessionWritten book.old.journal.items book.new.journal.items book.old.limit session (map (text_in bytes.now) statements.now) (outside_of (C.given clock.old) (C.given clock.new) (K.written sink.old) (K.written sink.new))) }
+    ensures cut { OnErr result (SessionPartWritten book.old.journal.items book.new.journal.items book.old.limit session (map (text_in bytes.now) statements.now) (outside_of (C.given clock.old) (C.given clock.new) (K.written sink.old) (K.written sink.new))) }
     ensures stands { Stands book.new.journal.items book.new.limit book.new.store }
     ensures sessions { book.new.sessions ≡ book.old.sessions }
     ensures opens { opens book.new.journal.items ≡ opens book.old.journal.items }
@@ -130,8 +130,8 @@ fn run_shut<K: Sink>(
     limit: u64,
     sink: &mut K,
 ) -> Result<(), Cut>
-    ensures ran { OnOk result (ShutRan limit (map (text_in bytes.now) statements.now) (K.written sink.old) (K.written sink.new)) }
-    ensures cut { OnErr result (ShutPart limit (map (text_in bytes.now) statements.now) (K.written sink.old) (K.written sink.new)) }
+    ensures ran { OnOk result (ShutWritten limit (map (text_in bytes.now) statements.now) (K.written sink.old) (K.written sink.new)) }
+    ensures cut { OnErr result (ShutPartWritten limit (map (text_in bytes.now) statements.now) (K.written sink.old) (K.written sink.new)) }
     ensures cause { result ≡ Err cuts.WriteFault → Rose (K.faults sink.old) (K.faults sink.new) }
     ensures later { K.faults sink.old ≤ K.faults sink.new }
 {

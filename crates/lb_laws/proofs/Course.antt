@@ -20,7 +20,7 @@ use Rattle.lb_model.specs.Journal.{FollowsSaid, IsMade, opens, mine_from, mine}
 use Rattle.lb_model.specs.Replay.{Replay, Replies}
 use Rattle.lb_model.specs.NotYet.{IsBuilt}
 use Rattle.lb_model.specs.Told.{mark_of, Placed, IsUnplaced, Unplaced, Told, places, places_and, count_from}
-use Rattle.lb_model.specs.Sections.{Section, Opening, opened, full, Outcome, AreShut, IsTold, AreTold, place_of, places_in, Journaled}
+use Rattle.lb_model.specs.Sections.{Section, SessionOpening, opened, full, SectionResult, AreShut, IsTold, AreTold, place_of, places_in, Journaled}
 
 -- ---- the course of a run
 
@@ -56,13 +56,13 @@ Leads limit number user P (text ∷ texts) (day ∷ days) (a ∷ answers) Q =
 Leads limit number user P _ _ _ Q = ⊥
 
 -- the statements of a section do, behind the Open of its session where there is one
-abbrev pub SectionLeads : ℕ → List Entry → Section → Opening → List ℤ → List Answer → List Entry → Type 0
+abbrev pub SectionLeads : ℕ → List Entry → Section → SessionOpening → List ℤ → List Answer → List Entry → Type 0
 SectionLeads limit P s (opened place number) days answers Q =
     (place ≡ length P) × (number ≡ opens P) × (length P < limit) × Leads limit number s.user (P ++ entries.Open s.user s.groups ∷ []) s.texts days answers Q
 SectionLeads limit P s full days answers Q = (length P ≡ limit) × (days ≡ []) × AreShut limit s.texts answers × (P ≡ Q)
 
 -- the sections of a script do, one after the other
-abbrev pub ScriptLeads : ℕ → List Entry → List Section → List Outcome → List Entry → Type 0
+abbrev pub ScriptLeads : ℕ → List Entry → List Section → List SectionResult → List Entry → Type 0
 ScriptLeads limit P [] [] Q = P ≡ Q
 ScriptLeads limit P (s ∷ ss) (o ∷ os) Q = (M : List Entry) × SectionLeads limit P s o.opening o.days o.answers M × ScriptLeads limit M ss os Q
 ScriptLeads limit P _ _ Q = ⊥
@@ -197,7 +197,7 @@ told_leads J limit number user made within at (e ∷ next) (t ∷ ts) (d ∷ ds)
 
 -- ---- a section, and the script
 
-section_leads : (J : List Entry) (limit at : ℕ) (s : Section) (o : Opening) (days : List ℤ) (answers : List Answer) (rest : List ℕ) → IsMade J → length J ≤ limit
+section_leads : (J : List Entry) (limit at : ℕ) (s : Section) (o : SessionOpening) (days : List ℤ) (answers : List Answer) (rest : List ℕ) → IsMade J → length J ≤ limit
     → IsCount at ((place_of o ++ places answers) ++ rest) (length J) → IsTold J limit at s o days answers → SectionLeads limit (take at J) s o days answers (take (at + length (place_of o ++ places answers)) J)
 section_leads J limit at s (opened place number) days answers rest made within c h =
     let first : Entry = entries.Open s.user s.groups in
@@ -224,7 +224,7 @@ section_leads J limit at s full days answers rest made within c h =
     let size : length (take at J) ≡ at = length-take-le at J (omega arith) in
     (size ∙ at_limit, h.2, h.3, ap (λ (n : ℕ). take n J) end)
 
-script_leads : (J : List Entry) (limit at : ℕ) (ss : List Section) (os : List Outcome) → IsMade J → length J ≤ limit
+script_leads : (J : List Entry) (limit at : ℕ) (ss : List Section) (os : List SectionResult) → IsMade J → length J ≤ limit
     → IsCount at (flat_map places_in os) (length J) → AreTold J limit at ss os → ScriptLeads limit (take at J) ss os J
 script_leads J limit at [] [] made within c h = let le : length J ≤ at = omega arith in take_all at J le
 script_leads J limit at (s ∷ ss) (o ∷ os) made within c h = (
@@ -236,7 +236,7 @@ script_leads J limit at [] (o ∷ os) made within c h = absurd h
 script_leads J limit at (s ∷ ss) [] made within c h = absurd h
 
 -- the course of a script that is told of a journal leads from no entries to that journal
-pub course : (limit : ℕ) (ss : List Section) (os : List Outcome) (h : Journaled limit ss os) → ScriptLeads limit [] ss os h.journal
+pub course : (limit : ℕ) (ss : List Section) (os : List SectionResult) (h : Journaled limit ss os) → ScriptLeads limit [] ss os h.journal
 course limit ss os h =
     let all : IsCount 0 (flat_map places_in os) (length h.journal) = subst (λ (ps : List ℕ). IsCount 0 ps (length h.journal)) (sym h.counted) (count_up 0 (length h.journal) (length h.journal) (zero-add (length h.journal))) in
     script_leads h.journal limit 0 ss os h.made h.within all h.told

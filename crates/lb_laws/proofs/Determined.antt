@@ -16,7 +16,7 @@ use Rattle.lb_model.specs.Journal.{opened_by, said_by}
 use Rattle.lb_model.specs.Replay.{Replay, Replies}
 use Rattle.lb_model.specs.NotYet.{IsBuilt}
 use Rattle.lb_model.specs.Told.{mark_of, IsUnplaced}
-use Rattle.lb_model.specs.Sections.{Section, Opening, opened, full, Outcome, IsShut, AreShut, Journaled, out}
+use Rattle.lb_model.specs.Sections.{Section, SessionOpening, opened, full, SectionResult, IsShut, AreShut, Journaled, out}
 use Rattle.lb_laws.specs.Outside.{shortage_at, shortage, SameOutside}
 use Rattle.lb_laws.proofs.Reading.{ReaderLaws, one_syntax, not_readable, not_built}
 use Rattle.lb_laws.proofs.One.{replay_one, replies_one}
@@ -39,9 +39,9 @@ said_is d e session number user groups day text =
     ∙ ap (λ (x : ℤ). record { session = e.session; number = e.number; user = e.user; groups = e.groups; day = x; text = d.text }) day
     ∙ ap (λ (x : List ℕ). record { session = e.session; number = e.number; user = e.user; groups = e.groups; day = e.day; text = x }) text
 
-outcome_is : (o p : Outcome) → o.opening ≡ p.opening → o.days ≡ p.days → o.answers ≡ p.answers → o ≡ p
-outcome_is o p opening days answers =
-    ap (λ (x : Opening). record { opening = x; days = o.days; answers = o.answers }) opening
+result_is : (o p : SectionResult) → o.opening ≡ p.opening → o.days ≡ p.days → o.answers ≡ p.answers → o ≡ p
+result_is o p opening days answers =
+    ap (λ (x : SessionOpening). record { opening = x; days = o.days; answers = o.answers }) opening
     ∙ ap (λ (x : List ℤ). record { opening = p.opening; days = x; answers = o.answers }) days
     ∙ ap (λ (x : List Answer). record { opening = p.opening; days = p.days; answers = x }) answers
 
@@ -195,7 +195,7 @@ shut_one W limit [] (a ∷ xs) ys same h i = absurd h
 shut_one W limit (t ∷ ts) [] ys same h i = absurd h
 shut_one W limit (t ∷ ts) (a ∷ xs) [] same h i = absurd i
 
-section_one : (W : ReaderLaws) (limit : ℕ) (P : List Entry) (s : Section) (o p : Opening) (ds es : List ℤ) (xs ys : List Answer) (Q R : List Entry)
+section_one : (W : ReaderLaws) (limit : ℕ) (P : List Entry) (s : Section) (o p : SessionOpening) (ds es : List ℤ) (xs ys : List Answer) (Q R : List Entry)
     → ds ≡ es → map shortage xs ≡ map shortage ys → SectionLeads limit P s o ds xs Q → SectionLeads limit P s p es ys R → (o ≡ p) × (xs ≡ ys) × (Q ≡ R)
 section_one W limit P s (opened place number) (opened there other) ds es xs ys Q R days same h i =
     let numbers : other ≡ number = i.1 ∙ sym h.1 in
@@ -210,7 +210,7 @@ section_one W limit P s full full ds es xs ys Q R days same h i = (refl, shut_on
 
 -- ---- the script
 
-script_one : (W : ReaderLaws) (limit : ℕ) (P : List Entry) (ss : List Section) (os ps : List Outcome) (Q R : List Entry)
+script_one : (W : ReaderLaws) (limit : ℕ) (P : List Entry) (ss : List Section) (os ps : List SectionResult) (Q R : List Entry)
     → SameOutside os ps → ScriptLeads limit P ss os Q → ScriptLeads limit P ss ps R → (Q ≡ R) × (os ≡ ps)
 script_one W limit P [] [] [] Q R same h i = (sym h ∙ i, refl)
 script_one W limit P (s ∷ ss) (o ∷ os) (p ∷ ps) Q R same h i =
@@ -220,22 +220,22 @@ script_one W limit P (s ∷ ss) (o ∷ os) (p ∷ ps) Q R same h i =
     let first = section_one W limit P s o.opening p.opening o.days p.days o.answers p.answers h.0 i.0 days memory h.1 i.1 in
     let next = subst (λ (M : List Entry). ScriptLeads limit M ss os Q) first.2 h.2 in
     let rest = script_one W limit i.0 ss os ps Q R later next i.2 in
-    (rest.0, joined (outcome_is o p first.0 days first.1) rest.1)
+    (rest.0, joined (result_is o p first.0 days first.1) rest.1)
 script_one W limit P [] [] (p ∷ ps) Q R same h i = absurd i
 script_one W limit P [] (o ∷ os) ps Q R same h i = absurd h
 script_one W limit P (s ∷ ss) [] ps Q R same h i = absurd h
 script_one W limit P (s ∷ ss) (o ∷ os) [] Q R same h i = absurd i
 
--- a script has one journal and one outcome
-pub determined : (W : ReaderLaws) (limit : ℕ) (ss : List Section) (os ps : List Outcome) (h : Journaled limit ss os) (i : Journaled limit ss ps) → SameOutside os ps → (h.journal ≡ i.journal) × (os ≡ ps)
+-- a script has one journal and one list of results
+pub determined : (W : ReaderLaws) (limit : ℕ) (ss : List Section) (os ps : List SectionResult) (h : Journaled limit ss os) (i : Journaled limit ss ps) → SameOutside os ps → (h.journal ≡ i.journal) × (os ≡ ps)
 determined W limit ss os ps h i same = script_one W limit [] ss os ps h.journal i.journal same (course limit ss os h) (course limit ss ps i)
 
-pub one_journal : (W : ReaderLaws) (limit : ℕ) (ss : List Section) (os ps : List Outcome) (h : Journaled limit ss os) (i : Journaled limit ss ps) → SameOutside os ps → h.journal ≡ i.journal
+pub one_journal : (W : ReaderLaws) (limit : ℕ) (ss : List Section) (os ps : List SectionResult) (h : Journaled limit ss os) (i : Journaled limit ss ps) → SameOutside os ps → h.journal ≡ i.journal
 one_journal W limit ss os ps h i same = (determined W limit ss os ps h i same).0
 
-pub one_outcome : (W : ReaderLaws) (limit : ℕ) (ss : List Section) (os ps : List Outcome) → Journaled limit ss os → Journaled limit ss ps → SameOutside os ps → os ≡ ps
-one_outcome W limit ss os ps h i same = (determined W limit ss os ps h i same).1
+pub one_result_list : (W : ReaderLaws) (limit : ℕ) (ss : List Section) (os ps : List SectionResult) → Journaled limit ss os → Journaled limit ss ps → SameOutside os ps → os ≡ ps
+one_result_list W limit ss os ps h i same = (determined W limit ss os ps h i same).1
 
 -- and one text
-pub one_output : (W : ReaderLaws) (limit : ℕ) (ss : List Section) (os ps : List Outcome) → Journaled limit ss os → Journaled limit ss ps → SameOutside os ps → out limit ss os ≡ out limit ss ps
-one_output W limit ss os ps h i same = ap (λ (x : List Outcome). out limit ss x) (one_outcome W limit ss os ps h i same)
+pub one_output : (W : ReaderLaws) (limit : ℕ) (ss : List Section) (os ps : List SectionResult) → Journaled limit ss os → Journaled limit ss ps → SameOutside os ps → out limit ss os ≡ out limit ss ps
+one_output W limit ss os ps h i same = ap (λ (x : List SectionResult). out limit ss x) (one_result_list W limit ss os ps h i same)

@@ -3,7 +3,7 @@ use Rattle.std.specs.Prelude.{ℕ, ◌≡◌, Bool, List, map, Option, None, Som
 use Rattle.lb_model.specs.declared.reply.Answer.{Answer}
 use Rattle.lb_model.specs.declared.reply.Reply.{Reply}
 use Rattle.lb_model.specs.declared.reply.Reply.TheVariants as replies
-use Rattle.lb_model.specs.Sections.{Outcome}
+use Rattle.lb_model.specs.Sections.{SectionResult}
 
 -- of an answer that is want of memory, whether it has a place; of any other, nothing
 abbrev pub shortage_at : Option ℕ → Reply → Option Bool
@@ -14,6 +14,6 @@ abbrev pub shortage : Answer → Option Bool
 shortage a = shortage_at a.place a.reply
 
 -- The two runs took the same days, and the same of their lines show NOMEMORY, with a place or without: section by section, line by line.
-pub record SameOutside (os ps : List Outcome) : Type 0 where
-  pub days : map (λ (o : Outcome). o.days) os ≡ map (λ (o : Outcome). o.days) ps
-  pub memory : map (λ (o : Outcome). map shortage o.answers) os ≡ map (λ (o : Outcome). map shortage o.answers) ps
+pub record SameOutside (os ps : List SectionResult) : Type 0 where
+  pub days : map (λ (o : SectionResult). o.days) os ≡ map (λ (o : SectionResult). o.days) ps
+  pub memory : map (λ (o : SectionResult). map shortage o.answers) os ≡ map (λ (o : SectionResult). map shortage o.answers) ps

@@ -4,7 +4,7 @@ ghost use Rattle.lb_model.specs.declared.entry.Entry.{Entry};
 ghost use Rattle.lb_model.specs.declared.reply.Reply.{Reply};
 ghost use Rattle.lb_model.specs.Step.{State};
 ghost use Rattle.lb_model.specs.Replay.{Replay, Rep};
-ghost use Rattle.lb_model.specs.Sections.{Section, Outcome, Journaled, out};
+ghost use Rattle.lb_model.specs.Sections.{Section, SectionResult, Journaled, out};
 ghost use Rattle.lb_laws.specs.Outside.{SameOutside};
 
 /// A journal leaves at most one state.
@@ -20,7 +20,7 @@ pub fn place_has_one_reply()
 /// The sections of a script, the limit of the journal, the days that the statements took and the lines that show
 /// NOMEMORY determine the journal, the openings of the sessions, every answer and the text of the run.
 pub fn script_has_one_journal()
-    ensures journal { (limit : ℕ) (sections : List Section) (os ps : List Outcome) (h : Journaled limit sections os) (i : Journaled limit sections ps) → SameOutside os ps → h.journal ≡ i.journal }
-    ensures outcomes { (limit : ℕ) (sections : List Section) (os ps : List Outcome) → Journaled limit sections os → Journaled limit sections ps → SameOutside os ps → os ≡ ps }
-    ensures output { (limit : ℕ) (sections : List Section) (os ps : List Outcome) → Journaled limit sections os → Journaled limit sections ps → SameOutside os ps → out limit sections os ≡ out limit sections ps }
+    ensures journal { (limit : ℕ) (sections : List Section) (os ps : List SectionResult) (h : Journaled limit sections os) (i : Journaled limit sections ps) → SameOutside os ps → h.journal ≡ i.journal }
+    ensures results { (limit : ℕ) (sections : List Section) (os ps : List SectionResult) → Journaled limit sections os → Journaled limit sections ps → SameOutside os ps → os ≡ ps }
+    ensures output { (limit : ℕ) (sections : List Section) (os ps : List SectionResult) → Journaled limit sections os → Journaled limit sections ps → SameOutside os ps → out limit sections os ≡ out limit sections ps }
 {}

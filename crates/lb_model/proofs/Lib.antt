@@ -1,4 +1,4 @@
-pub mod Grows
+pub mod Longer
 pub mod Roots
 pub mod Sectioned
 pub mod Sessions

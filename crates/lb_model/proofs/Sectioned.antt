@@ -9,10 +9,10 @@ use Rattle.lb_model.specs.declared.entry.Entry.TheVariants as entries
 use Rattle.lb_model.specs.declared.reply.Answer.{Answer}
 use Rattle.lb_model.specs.Journal.{mine, opens}
 use Rattle.lb_model.specs.Told.{Told, count_from}
-use Rattle.lb_model.specs.Sections.{Section, Opening, opened, full, Outcome, IsTold, AreTold, places_in, section_text, out, IsFront}
+use Rattle.lb_model.specs.Sections.{Section, SessionOpening, opened, full, SectionResult, IsTold, AreTold, places_in, section_text, out, IsFront}
 use Rattle.lb_model.specs.Sections as sections
-use Rattle.lb_model.specs.Telling.{RanSection, first_of}
-use Rattle.lb_model.proofs.Grows.{get_left, told_left}
+use Rattle.lb_model.specs.Telling.{SectionJournaled, first_of}
+use Rattle.lb_model.proofs.Longer.{get_left, told_left}
 use Rattle.lb_model.proofs.Sessions.{opens_open, opens_said}
 
 -- ---- as the journal grows
@@ -33,7 +33,7 @@ opened_before (entries.Said d ∷ es) (suc place) user groups h =
     let rest = opened_before es place user groups h in
     omega (arith, one, two, rest)
 
-told_grown : (J K : List Entry) (limit at : ℕ) (s : Section) (o : Opening) (days : List ℤ) (answers : List Answer) → length J < limit → ((n : ℕ) → n < opens J → mine (J ++ K) n ≡ mine J n)
+told_grown : (J K : List Entry) (limit at : ℕ) (s : Section) (o : SessionOpening) (days : List ℤ) (answers : List Answer) → length J < limit → ((n : ℕ) → n < opens J → mine (J ++ K) n ≡ mine J n)
     → IsTold J limit at s o days answers → IsTold (J ++ K) limit at s o days answers
 told_grown J K limit at s (opened place number) days answers lt others h =
     let there = get_left J K place (entries.Open s.user s.groups) h.1 in
@@ -44,14 +44,14 @@ told_grown J K limit at s (opened place number) days answers lt others h =
     (h.0, there, h.2 ∙ ap (λ (L : List Entry). opens L) (sym front), told)
 told_grown J K limit at s full days answers lt others h = absurd (omega (arith, lt, h.1))
 
-are_told_grown : (J K : List Entry) (limit at : ℕ) (ss : List Section) (os : List Outcome) → length J < limit → ((n : ℕ) → n < opens J → mine (J ++ K) n ≡ mine J n) → AreTold J limit at ss os → AreTold (J ++ K) limit at ss os
+are_told_grown : (J K : List Entry) (limit at : ℕ) (ss : List Section) (os : List SectionResult) → length J < limit → ((n : ℕ) → n < opens J → mine (J ++ K) n ≡ mine J n) → AreTold J limit at ss os → AreTold (J ++ K) limit at ss os
 are_told_grown J K limit at [] [] lt others h = h
 are_told_grown J K limit at (s ∷ ss) (o ∷ os) lt others h = (told_grown J K limit at s o.opening o.days o.answers lt others h.0, are_told_grown J K limit (at + length (places_in o)) ss os lt others h.1)
 are_told_grown J K limit at [] (o ∷ os) lt others h = absurd h
 are_told_grown J K limit at (s ∷ ss) [] lt others h = absurd h
 
 -- entries behind the journal, none of them of its sessions, leave what was told
-pub are_told_behind : (J K added : List Entry) (limit at : ℕ) (ss : List Section) (os : List Outcome) → K ≡ J ++ added → length K ≤ limit → ((n : ℕ) → n < opens J → mine K n ≡ mine J n) → AreTold J limit at ss os → AreTold K limit at ss os
+pub are_told_behind : (J K added : List Entry) (limit at : ℕ) (ss : List Section) (os : List SectionResult) → K ≡ J ++ added → length K ≤ limit → ((n : ℕ) → n < opens J → mine K n ≡ mine J n) → AreTold J limit at ss os → AreTold K limit at ss os
 are_told_behind J K [] limit at ss os e le others h = subst (λ (L : List Entry). AreTold L limit at ss os) (sym (e ∙ append-nil J)) h
 are_told_behind J K (x ∷ xs) limit at ss os e le others h =
     let size : length K ≡ length J + length (x ∷ xs) = ap (λ (L : List Entry). length L) e ∙ length-append J (x ∷ xs) in
@@ -61,7 +61,7 @@ are_told_behind J K (x ∷ xs) limit at ss os e le others h =
 
 -- ---- one section more
 
-pub are_told_more : (K : List Entry) (limit at : ℕ) (ss : List Section) (os : List Outcome) (s : Section) (o : Outcome) → AreTold K limit at ss os → IsTold K limit (at + length (flat_map places_in os)) s o.opening o.days o.answers
+pub are_told_more : (K : List Entry) (limit at : ℕ) (ss : List Section) (os : List SectionResult) (s : Section) (o : SectionResult) → AreTold K limit at ss os → IsTold K limit (at + length (flat_map places_in os)) s o.opening o.days o.answers
     → AreTold K limit at (ss ++ s ∷ []) (os ++ o ∷ [])
 are_told_more K limit at [] [] s o h t = (let same : at + length (flat_map places_in []) ≡ at = omega arith in subst (λ (n : ℕ). IsTold K limit n s o.opening o.days o.answers) same t, tt)
 are_told_more K limit at (r ∷ ss) (p ∷ os) s o h t =
@@ -71,7 +71,7 @@ are_told_more K limit at (r ∷ ss) (p ∷ os) s o h t =
 are_told_more K limit at [] (p ∷ os) s o h t = absurd h
 are_told_more K limit at (r ∷ ss) [] s o h t = absurd h
 
-pub out_more : (K : List Entry) (limit at : ℕ) (ss : List Section) (os : List Outcome) (s : Section) (o : Outcome) → AreTold K limit at ss os → out limit (ss ++ s ∷ []) (os ++ o ∷ []) ≡ out limit ss os ++ section_text limit s o
+pub out_more : (K : List Entry) (limit at : ℕ) (ss : List Section) (os : List SectionResult) (s : Section) (o : SectionResult) → AreTold K limit at ss os → out limit (ss ++ s ∷ []) (os ++ o ∷ []) ≡ out limit ss os ++ section_text limit s o
 out_more K limit at [] [] s o h = append-nil (section_text limit s o)
 out_more K limit at (r ∷ ss) (p ∷ os) s o h =
     ap (λ (t : List ℕ). section_text limit r p ++ t) (out_more K limit (at + length (places_in p)) ss os s o h.1) ∙ sym (append_assoc (section_text limit r p) (out limit ss os) (section_text limit s o))
@@ -96,11 +96,11 @@ flat_more : {A B : Type 0} (f : A → List B) (xs : List A) (x : A) → flat_map
 flat_more f xs x = flat_map-append f xs (x ∷ []) ∙ ap (λ (t : List _). flat_map f xs ++ t) (append-nil (f x))
 
 -- the sections so far, and one more behind them
-pub record Sofar (J : List Entry) (limit : ℕ) (ss : List Section) (os : List Outcome) : Type 0 where
+pub record Sofar (J : List Entry) (limit : ℕ) (ss : List Section) (os : List SectionResult) : Type 0 where
   pub told : AreTold J limit 0 ss os
   pub counted : flat_map places_in os ≡ count_from 0 (length J)
 
-pub sofar_more : (J K : List Entry) (limit : ℕ) (ss : List Section) (os : List Outcome) (s : Section) (o : Outcome) → Sofar J limit ss os → RanSection J K limit s o → length K ≤ limit → Sofar K limit (ss ++ s ∷ []) (os ++ o ∷ [])
+pub sofar_more : (J K : List Entry) (limit : ℕ) (ss : List Section) (os : List SectionResult) (s : Section) (o : SectionResult) → Sofar J limit ss os → SectionJournaled J K limit s o → length K ≤ limit → Sofar K limit (ss ++ s ∷ []) (os ++ o ∷ [])
 sofar_more J K limit ss os s o h r le =
     let before : length (flat_map places_in os) ≡ length J = ap (λ (t : List ℕ). length t) h.counted ∙ count_length 0 (length J) in
     let there : 0 + length (flat_map places_in os) ≡ length J = omega (arith, before) in
@@ -112,7 +112,7 @@ sofar_more J K limit ss os s o h r le =
           ∙ count_join 0 (length J) (length r.added) ∙ ap (λ (n : ℕ). count_from 0 n) (sym size);
     }
 
-pub sofar_out : (J : List Entry) (limit : ℕ) (ss : List Section) (os : List Outcome) (s : Section) (o : Outcome) → Sofar J limit ss os → out limit (ss ++ s ∷ []) (os ++ o ∷ []) ≡ out limit ss os ++ section_text limit s o
+pub sofar_out : (J : List Entry) (limit : ℕ) (ss : List Section) (os : List SectionResult) (s : Section) (o : SectionResult) → Sofar J limit ss os → out limit (ss ++ s ∷ []) (os ++ o ∷ []) ≡ out limit ss os ++ section_text limit s o
 sofar_out J limit ss os s o h = out_more J limit 0 ss os s o h.told
 
 -- ---- fronts of a script

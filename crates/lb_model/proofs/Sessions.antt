@@ -8,7 +8,7 @@ use Rattle.lb_model.specs.declared.entry.Entry.{Entry}
 use Rattle.lb_model.specs.declared.entry.Entry.TheVariants as entries
 use Rattle.lb_model.specs.declared.entry.Said.{Said}
 use Rattle.lb_model.specs.Journal.{FollowsSaid, Follows, MadeFrom, IsMade, mine_from, mine, opened_by, said_by, is_said_by, opens, is_open}
-use Rattle.lb_model.proofs.Grows.{mine_from_more}
+use Rattle.lb_model.proofs.Longer.{mine_from_more}
 
 one_if : Bool → ℕ
 one_if b = cond b 1 0

@@ -9,9 +9,9 @@ use Rattle.lb_model.specs.declared.entry.Said.{Said}
 use Rattle.lb_model.specs.declared.reply.Answer.{Answer}
 use Rattle.lb_model.specs.Journal.{IsMade, mine, opens}
 use Rattle.lb_model.specs.Told.{Placed, Unplaced, Told, places, count_from}
-use Rattle.lb_model.specs.Sections.{Section, Outcome, opened, IsTold, places_in}
-use Rattle.lb_model.specs.Telling.{end_of, Telling, RanSection}
-use Rattle.lb_model.proofs.Grows.{end_of_more, told_left, told_unplaced, told_placed, mine_more, places_more, count_more}
+use Rattle.lb_model.specs.Sections.{Section, SectionResult, opened, IsTold, places_in}
+use Rattle.lb_model.specs.Telling.{end_of, Telling, SectionJournaled}
+use Rattle.lb_model.proofs.Longer.{end_of_more, told_left, told_unplaced, told_placed, mine_more, places_more, count_more}
 use Rattle.lb_model.proofs.Sessions.{opens_more, opens_open, opens_with_said, mine_later, mine_open, mine_other, get_at}
 
 -- a session that was opened now
@@ -71,7 +71,7 @@ telling_placed I J limit number user groups texts days ans text day a said h own
 
 -- of a session that was told, the section was run
 pub ran_session : (I J : List Entry) (limit number : ℕ) (user : List ℕ) (groups : List (List ℕ)) (texts : List (List ℕ)) (days : List ℤ) (ans : List Answer) → Telling I J limit number user groups texts days ans
-    → RanSection I J limit (record { user = user; groups = groups; texts = texts }) (record { opening = opened (length I) number; days = days; answers = ans })
+    → SectionJournaled I J limit (record { user = user; groups = groups; texts = texts }) (record { opening = opened (length I) number; days = days; answers = ans })
 ran_session I J limit number user groups texts days ans h =
     let there : slice_get J (length I) ≡ Some (entries.Open user groups) = subst (λ (L : List Entry). slice_get L (length I) ≡ Some (entries.Open user groups)) (sym h.grown) (get_at I (entries.Open user groups) h.added) in
     let front : take (length I) J ≡ I = ap (λ (L : List Entry). take (length I) L) h.grown ∙ take-append-le (length I) I (entries.Open user groups ∷ h.added) (omega arith) ∙ take-length I in

@@ -1,8 +1,10 @@
 -- The journal: one entry for each opening of a session and for each statement with a place, in one order.
-use Rattle.std.specs.Prelude.{ℕ, zero, suc, ℤ, pos, negsuc, ◌≡◌, ◌≤◌, ◌≤ℤ◌, ◌+◌, ◌==◌, Bool, true, false, List, [], ◌∷◌, ◌++◌, length, count_by, Option, None, Some, if◌then◌else◌}
+use Rattle.std.specs.Prelude.{ℕ, zero, suc, ◌≡◌, ◌+◌, ◌==◌, Bool, true, false, List, [], ◌∷◌, ◌++◌, count_by, Option, None, Some, if◌then◌else◌}
 use Rattle.lb_stmt.specs.declared.write.Stmt.{Stmt}
 use Rattle.lb_tok.specs.Canonical.{canonical}
 use Rattle.lb_tok.specs.Spelled.{IsSpoken}
+use Rattle.lb_tok.specs.Syntax.{IsReadable}
+use Rattle.lb_wire.specs.Days.{IsDay}
 use Rattle.lb_model.specs.declared.entry.Said.{Said}
 use Rattle.lb_model.specs.declared.entry.Entry.{Entry}
 use Rattle.lb_model.specs.declared.entry.Entry.TheVariants as entries
@@ -10,10 +12,6 @@ use Rattle.lb_model.specs.declared.entry.Entry.TheVariants as entries
 -- the text is the canonical text of the statement, which some text spells
 abbrev pub Speaks : List ℕ → Stmt → Type 0
 Speaks text s = IsSpoken s × (canonical s ≡ text)
-
--- a day that a clock gives: from 0001-01-01 to 9999-12-31
-abbrev pub IsDay : ℤ → Type 0
-IsDay day = (negsuc 719161 ≤ℤ day) × (day ≤ℤ pos 2932896)
 
 -- user and groups of the session's Open
 abbrev pub opened_by : List Entry → ℕ → Option (List ℕ × List (List ℕ))
@@ -38,12 +36,13 @@ is_said_by s (entries.Said d) = d.session == s
 abbrev pub said_by : List Entry → ℕ → ℕ
 said_by J s = count_by (is_said_by s) J
 
--- What the entry of a statement owes to those before it: its text is canonical and can be read again, its day is a day,
--- its session was opened before it by its user with its groups, and its number counts the session's statements before it.
+-- What the entry of a statement owes to those before it: its text is the canonical text of a statement, is read as that statement, with all
+-- that reading asks (at most 4,096 bytes, UTF-8, at most 64 brackets open at a time), and so can be read again; its day is one that a clock gives;
+-- its session was opened before it by its user with its groups; and its number counts the session's statements before it.
 pub record FollowsSaid (J : List Entry) (d : Said) : Type 0 where
   pub stmt : Stmt
   pub speaks : Speaks d.text stmt
-  pub short : length d.text ≤ 4096
+  pub readable : IsReadable d.text stmt
   pub day : IsDay d.day
   pub opened : opened_by J d.session ≡ Some (d.user, d.groups)
   pub counted : d.number ≡ said_by J d.session

@@ -20,13 +20,13 @@ pub record Section : Type 0 where
   pub texts : List (List ℕ)
 
 -- how its session was opened: at a place of the journal, with a number; or not, since the journal was full
-pub data Opening : Type 0 where
-  opened : ℕ → ℕ → Opening
-  full : Opening
+pub data SessionOpening : Type 0 where
+  opened : ℕ → ℕ → SessionOpening
+  full : SessionOpening
 
 -- what came of a section: how it was opened, the days that its statements took, and their answers
-pub record Outcome : Type 0 where
-  pub opening : Opening
+pub record SectionResult : Type 0 where
+  pub opening : SessionOpening
   pub days : List ℤ
   pub answers : List Answer
 
@@ -44,47 +44,47 @@ AreShut limit _ _ = ⊥
 
 -- Of a section that begins where `at` entries stand. Its session was opened there, and its statements were told of the journal; or the journal
 -- has as many entries as it may have, and then no day was asked for.
-abbrev pub IsTold : List Entry → ℕ → ℕ → Section → Opening → List ℤ → List Answer → Type 0
+abbrev pub IsTold : List Entry → ℕ → ℕ → Section → SessionOpening → List ℤ → List Answer → Type 0
 IsTold J limit at s (opened place number) days answers =
     (place ≡ at) × (slice_get J place ≡ Some (entries.Open s.user s.groups)) × (number ≡ opens (take place J))
     × Told J limit s.user (place + 1) (mine J number) s.texts days answers
 IsTold J limit at s full days answers = (at ≡ limit) × (length J ≡ limit) × (days ≡ []) × AreShut limit s.texts answers
 
 -- the place of the header's line, where it has one
-abbrev pub place_of : Opening → List ℕ
+abbrev pub place_of : SessionOpening → List ℕ
 place_of (opened place number) = place ∷ []
 place_of full = []
 
 -- the places that the lines of a section show
-abbrev pub places_in : Outcome → List ℕ
+abbrev pub places_in : SectionResult → List ℕ
 places_in o = place_of o.opening ++ places o.answers
 
 -- the sections are told of the journal one after the other, `at` entries standing before the first
-abbrev pub AreTold : List Entry → ℕ → ℕ → List Section → List Outcome → Type 0
+abbrev pub AreTold : List Entry → ℕ → ℕ → List Section → List SectionResult → Type 0
 AreTold J limit at [] [] = Unit {0}
 AreTold J limit at (s ∷ ss) (o ∷ os) = IsTold J limit at s o.opening o.days o.answers × AreTold J limit (at + length (places_in o)) ss os
 AreTold J limit at _ _ = ⊥
 
 -- There is one journal: it is well made, has at most so many entries, the sections are told of it, and the places that the lines show are all its
 -- places, from 0 on.
-pub record Journaled (limit : ℕ) (sections : List Section) (outcomes : List Outcome) : Type 0 where
+pub record Journaled (limit : ℕ) (sections : List Section) (results : List SectionResult) : Type 0 where
   pub journal : List Entry
   pub made : IsMade journal
   pub within : length journal ≤ limit
-  pub told : AreTold journal limit 0 sections outcomes
-  pub counted : flat_map places_in outcomes ≡ count_from 0 (length journal)
+  pub told : AreTold journal limit 0 sections results
+  pub counted : flat_map places_in results ≡ count_from 0 (length journal)
 
 -- the line of a section
-abbrev pub opening_text : ℕ → Section → Opening → List ℕ
+abbrev pub opening_text : ℕ → Section → SessionOpening → List ℕ
 opening_text limit s (opened place number) = header_text place number s.user
 opening_text limit s full = full_text limit
 
 -- the text of a section: its line, and the block of each answer
-abbrev pub section_text : ℕ → Section → Outcome → List ℕ
+abbrev pub section_text : ℕ → Section → SectionResult → List ℕ
 section_text limit s o = opening_text limit s o.opening ++ flat_map block_text o.answers
 
 -- the text of a run
-abbrev pub out : ℕ → List Section → List Outcome → List ℕ
+abbrev pub out : ℕ → List Section → List SectionResult → List ℕ
 out limit [] os = []
 out limit (s ∷ ss) [] = []
 out limit (s ∷ ss) (o ∷ os) = section_text limit s o ++ out limit ss os

@@ -6,7 +6,7 @@ use Rattle.lb_model.specs.declared.entry.Said.{Said}
 use Rattle.lb_model.specs.declared.reply.Answer.{Answer}
 use Rattle.lb_model.specs.Journal.{mine, opens}
 use Rattle.lb_model.specs.Told.{Told, places, count_from}
-use Rattle.lb_model.specs.Sections.{Section, Outcome, IsTold, places_in}
+use Rattle.lb_model.specs.Sections.{Section, SectionResult, IsTold, places_in}
 
 -- the number of entries that stand before the next statement, once these entries have been told of
 abbrev pub end_of : ℕ → List (ℕ × Said) → ℕ
@@ -25,7 +25,7 @@ pub record Telling (I J : List Entry) (limit number : ℕ) (user : List ℕ) (gr
 
 -- The section was run behind the entries of I. It is told of J, which has its own entries behind those; they are the places that its lines show,
 -- and none is of an earlier session.
-pub record RanSection (I J : List Entry) (limit : ℕ) (s : Section) (o : Outcome) : Type 0 where
+pub record SectionJournaled (I J : List Entry) (limit : ℕ) (s : Section) (o : SectionResult) : Type 0 where
   pub added : List Entry
   pub grown : J ≡ I ++ added
   pub others : (n : ℕ) → n < opens I → mine J n ≡ mine I n

@@ -3,7 +3,7 @@ use Rattle.std.proofs.Common.{◌≡◌, ℕ, ◌+◌, ◌-◌, List, [], ◌++�
 use Rattle.std.proofs.lemmas.List.{nil_from_length, take_all, take_rest, take-take, take-append-le, take-append-drop, drop-take, drop-drop}
 use Rattle.std.proofs.Math.Seq.{take-append-add}
 use Rattle.std.specs.Io.KnownBytes.{Appends, IsAtEnd}
-use Rattle.lb_wire.specs.Told.{Grows, Took, TookAll, AppendsPart}
+use Rattle.lb_wire.specs.Told.{GrewBy, Took, TookAll, AppendsPart}
 
 -- the first i of a list, and n more
 pub take-take_more : {A : Type 0} (i n : ℕ) (xs : List A) → take i xs ++ take n (drop i xs) ≡ take (i + n) xs
@@ -87,14 +87,14 @@ TookAll-at_end (Some a) (Some b) xs p e = (p ∙ ap (λ l. xs ++ l) e ∙ append
 
 -- ---- what a clock gave
 
-pub Grows-nil : {A : Type 0} (a : Option (List A)) → Grows a a []
-Grows-nil None = tt
-Grows-nil (Some a) = sym (append-nil a)
+pub GrewBy-nil : {A : Type 0} (a : Option (List A)) → GrewBy a a []
+GrewBy-nil None = tt
+GrewBy-nil (Some a) = sym (append-nil a)
 
-pub Grows-then : {A : Type 0} (a b c : Option (List A)) (xs ys : List A) → Grows a b xs → Grows b c ys → Grows a c (xs ++ ys)
-Grows-then None b None xs ys p q = tt
-Grows-then (Some a) b None xs ys p q = tt
-Grows-then None None (Some c) xs ys p q = absurd q
-Grows-then (Some a) None (Some c) xs ys p q = absurd q
-Grows-then None (Some b) (Some c) xs ys p q = absurd p
-Grows-then (Some a) (Some b) (Some c) xs ys p q = rw (q, p) (append_assoc a xs ys)
+pub GrewBy-then : {A : Type 0} (a b c : Option (List A)) (xs ys : List A) → GrewBy a b xs → GrewBy b c ys → GrewBy a c (xs ++ ys)
+GrewBy-then None b None xs ys p q = tt
+GrewBy-then (Some a) b None xs ys p q = tt
+GrewBy-then None None (Some c) xs ys p q = absurd q
+GrewBy-then (Some a) None (Some c) xs ys p q = absurd q
+GrewBy-then None (Some b) (Some c) xs ys p q = absurd p
+GrewBy-then (Some a) (Some b) (Some c) xs ys p q = rw (q, p) (append_assoc a xs ys)

@@ -19,7 +19,7 @@ pub record AppendsPart (before after : Option (List ℕ)) (piece : List ℕ) : T
   pub bytes : Appends before after (take count piece)
 
 -- a list that is told now was told before, and has grown by these items at its end
-abbrev pub Grows : {A : Type 0} → Option (List A) → Option (List A) → List A → Type 0
-Grows before None more = ⊤
-Grows None (Some after) more = ⊥
-Grows (Some before) (Some after) more = after ≡ before ++ more
+abbrev pub GrewBy : {A : Type 0} → Option (List A) → Option (List A) → List A → Type 0
+GrewBy before None more = ⊤
+GrewBy None (Some after) more = ⊥
+GrewBy (Some before) (Some after) more = after ≡ before ++ more

@@ -2,7 +2,7 @@
 ghost use Rattle.std.specs.Prelude.{◌≡◌, ◌/◌, ◌∷◌, [], min, pos, MatchResult, None};
 ghost use Rattle.std.specs.Duration.{as_nanos};
 ghost use Rattle.lb_wire.specs.Days.{IsDay};
-ghost use Rattle.lb_wire.specs.Told.{Grows};
+ghost use Rattle.lb_wire.specs.Told.{GrewBy};
 
 use crate::Clock;
 use std::io;
@@ -37,7 +37,7 @@ impl<R: std::rt::Clock> Clock for DayClock<R> {
     // It keeps what it gives.
     fn today(&mut self) -> i32
         ensures range { IsDay result }
-        ensures days { Grows None None (result ∷ []) }
+        ensures days { GrewBy None None (result ∷ []) }
         ensures kept { self.new.last ≡ result }
     {
         self.last = day_after(self.rt.since_1970(), self.last);

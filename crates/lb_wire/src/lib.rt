@@ -14,4 +14,4 @@ pub use memory::{MemClock, MemSink, MemSource};
 pub use outside::{Clock, Failed, NoMemory, Sink, Source};
 pub use status::Status;
 pub use std_ends::{StdSink, StdSource};
-pub use transfer::{ReadFault, put_all, read_all};
+pub use transfer::{InputFault, MOST_INPUT_BYTES, put_all, read_all};

@@ -4,7 +4,7 @@ ghost use Rattle.std.specs.Io.{ReadsAtMost, WritesAtMost};
 ghost use Rattle.std.specs.Io.KnownBytes.{ReadConsumes, WriteAppends};
 ghost use Rattle.lb_wire.specs.Causes.{HasCause};
 ghost use Rattle.lb_wire.specs.Days.{IsDay};
-ghost use Rattle.lb_wire.specs.Told.{Grows};
+ghost use Rattle.lb_wire.specs.Told.{GrewBy};
 
 /// A source or a sink failed. Its count of faults has risen.
 #[derive(Clone, Copy, Debug, PartialEq, Eq)]
@@ -61,5 +61,5 @@ pub trait Clock {
     /// can't fail.
     fn today(&mut self) -> i32
         ensures range { IsDay result }
-        ensures days { Grows (given self.old) (given self.new) (result ∷ []) };
+        ensures days { GrewBy (given self.old) (given self.new) (result ∷ []) };
 }

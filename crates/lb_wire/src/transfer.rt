@@ -8,12 +8,15 @@ ghost use Rattle.lb_wire.specs.Reading.{TookUpTo};
 use crate::{Failed, Sink, Source};
 use std::alloc::Global;
 
+/// The most bytes of a program's input.
+pub const MOST_INPUT_BYTES: usize = 16_777_216;
+
 // How many bytes are asked for at once.
 const PIECE: usize = 4096;
 
 /// Why no whole input was read.
 #[derive(Clone, Copy, Debug, PartialEq, Eq)]
-pub enum ReadFault {
+pub enum InputFault {
     /// The source failed.
     Failed,
     /// The source gave more bytes than are taken.
@@ -28,12 +31,16 @@ pub enum ReadFault {
 /// one more: the call never asks for more than what is missing to `most + 1`. `Failed` comes only
 /// where the source's count of faults rose in this call. Where the answer isn't `Ok`, what was
 /// read is lost.
-pub fn read_all<S: Source>(alloc: Global, source: &mut S, most: usize) -> Result<Vec<u8>, ReadFault>
+pub fn read_all<S: Source>(
+    alloc: Global,
+    source: &mut S,
+    most: usize,
+) -> Result<Vec<u8>, InputFault>
     ensures all { IfOk result (λ v. TookAll (S.left source.old) (S.left source.new) v.items) }
     ensures most { IfOk result (λ v. vec_len v ≤ most) }
     ensures taken { TookUpTo (S.left source.old) (S.left source.new) most result }
     ensures later { S.faults source.old ≤ S.faults source.new }
-    ensures failed { result ≡ Err ReadFault.Failed
+    ensures failed { result ≡ Err InputFault.Failed
         → Rose (S.faults source.old) (S.faults source.new) }
 {
     let mut bytes: Vec<u8> = Vec::new(alloc);
@@ -42,12 +49,12 @@ pub fn read_all<S: Source>(alloc: Global, source: &mut S, most: usize) -> Result
         let missing = most - bytes.len();
         let room = missing.saturating_add(1).min(PIECE);
         match source.read(&mut buf[..room]) {
-            Err(Failed) => return Err(ReadFault::Failed),
+            Err(Failed) => return Err(InputFault::Failed),
             Ok(0) => return Ok(bytes),
-            Ok(count) if count > missing => return Err(ReadFault::TooLong),
+            Ok(count) if count > missing => return Err(InputFault::TooLong),
             Ok(count) => {
                 if bytes.extend_from_slice(&buf[..count]).is_err() {
-                    return Err(ReadFault::NoMemory);
+                    return Err(InputFault::NoMemory);
                 }
             }
         }

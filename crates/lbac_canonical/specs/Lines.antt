@@ -15,23 +15,14 @@ use Rattle.lbac_canonical.specs.declared.line.Line.TheVariants as lines
 
 -- The text is that of a statement, and the line is the statement's canonical text, which can be read again; or the
 -- text goes wrong at the byte that the line names, which is 4096 where the canonical text can't be read again.
--- A canonical text is never read as another statement.
 abbrev pub IsLineOf : List ℕ → Line → Type 0
 IsLineOf text (lines.Canonical told) = (s : Stmt) × IsReadable text s × (told ≡ canonical s)
 IsLineOf text (lines.Syntax at) = IsSyntaxAt text at
-IsLineOf text lines.Another = ⊥
-
--- what the line says of two texts: it is the second, where both are the same
-abbrev pub IsCompared : List ℕ → List ℕ → Line → Type 0
-IsCompared some other (lines.Canonical told) = told ≡ other
-IsCompared some other (lines.Syntax at) = ⊥
-IsCompared some other lines.Another = some ≡ other → ⊥
 
 -- the line as it is printed, without its end
 abbrev pub line_text : Line → List ℕ
 line_text (lines.Canonical told) = told
 line_text (lines.Syntax at) = codes "SYNTAX " ++ decimal at
-line_text lines.Another = codes "NOT THE SAME"
 
 -- the line with its end
 abbrev pub printed : Line → List ℕ
@@ -47,17 +38,17 @@ AreLinesOf [] [] = Unit {0}
 AreLinesOf (text ∷ texts) (line ∷ told) = IsLineOf text line × AreLinesOf texts told
 AreLinesOf _ _ = ⊥
 
--- the statements among pieces, each as the offsets of its first byte and behind its last one; headers and QUIT are none
-abbrev pub statements_in : List Piece → List (ℕ × ℕ)
-statements_in [] = []
-statements_in (pieces.Header from to ∷ ps) = statements_in ps
-statements_in (pieces.Statement from to ∷ ps) = (from, to) ∷ statements_in ps
-statements_in (pieces.Quit from to ∷ ps) = statements_in ps
-statements_in (pieces.End ∷ ps) = statements_in ps
+-- the statements among pieces, each as the offset of its first byte and the offset after its last one; headers and QUIT are none
+abbrev pub all_statements : List Piece → List (ℕ × ℕ)
+all_statements [] = []
+all_statements (pieces.Header from to ∷ ps) = all_statements ps
+all_statements (pieces.Statement from to ∷ ps) = (from, to) ∷ all_statements ps
+all_statements (pieces.Quit from to ∷ ps) = all_statements ps
+all_statements (pieces.End ∷ ps) = all_statements ps
 
 -- the texts of a script's statements
 abbrev pub texts_of : List ℕ → List (List ℕ)
-texts_of script = map (text_in script) (statements_in (pieces_of script))
+texts_of script = map (text_in script) (all_statements (pieces_of script))
 
 -- the line of the text was written
 abbrev pub IsPut : List ℕ → Option (List ℕ) → Option (List ℕ) → Type 0

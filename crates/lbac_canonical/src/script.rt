@@ -1,21 +1,19 @@
 // The lines of a script.
-ghost use Rattle.std.specs.Prelude.{◌≡◌, ◌≤◌, ◌<◌, ◌^◌, Err, IfOk, OnOk, OnErr, length, map, string_bytes};
+ghost use Rattle.std.specs.Prelude.{◌≡◌, ◌⊎◌, ◌≤◌, ◌<◌, ◌^◌, Err, IfOk, OnOk, OnErr, length, map, string_bytes};
 ghost use Rattle.lb_wire.specs.Causes.{Rose};
+ghost use Rattle.lb_wire.specs.Inputs.{IsRunnable};
 ghost use Rattle.lb_wire.specs.declared.status.Status.TheVariants as statuses;
 ghost use Rattle.lb_split.specs.Pieces.{pieces_of};
 ghost use Rattle.lb_split.specs.Scripts.{text_in};
 ghost use Rattle.lbac_canonical.specs.declared.script.Cut.TheVariants as cuts;
-ghost use Rattle.lbac_canonical.specs.Lines.{IsPut, IsPutPart, IsPrinted, Printed, PrintedPart, statements_in};
+ghost use Rattle.lbac_canonical.specs.Lines.{IsPut, IsPutPart, IsPrinted, Printed, PrintedPart, all_statements};
 ghost use Rattle.lbac_canonical.specs.Ending.{Ends};
 
 use crate::line::line_of;
 use lb_base::Listing;
 use lb_split::{Piece, Span, Spans, resume, split, text_at};
-use lb_wire::{NoMemory, ReadFault, Sink, Source, Status, put_all, read_all};
+use lb_wire::{InputFault, MOST_INPUT_BYTES, NoMemory, Sink, Source, Status, put_all, read_all};
 use std::alloc::Global;
-
-/// The most bytes of a script.
-const MOST_BYTES: usize = 16_777_216;
 
 /// Why the lines were not all written.
 #[derive(Clone, Copy, Debug, PartialEq, Eq)]
@@ -25,18 +23,20 @@ enum Cut {
 }
 
 /// Reads a script to its end, and writes the line of each of its statements. Headers, QUIT and blank statements have
-/// none. The status is Done; or ReadFault, TooLong (of more than 16,777,216 bytes) or NoMemory, and nothing was written;
-/// or WriteFault or NoMemory, and the first bytes of the lines were written.
+/// none. The status is Done, of a script of at most 16,777,216 bytes; or ReadFault, TooLong (where the source gave more
+/// bytes than that) or NoMemory, and nothing was written; or WriteFault or NoMemory, and the first bytes of the lines were
+/// written. Where the source tells bytes within the limit and neither it nor the sink failed, it is Done or NoMemory.
 pub fn put_script<S: Source, K: Sink>(alloc: Global, source: &mut S, sink: &mut K) -> Status
     ensures ends { Ends result (S.left source.old) (S.left source.new) (K.written sink.old) (K.written sink.new) }
     ensures read { result ≡ statuses.ReadFault → Rose (S.faults source.old) (S.faults source.new) }
     ensures write { result ≡ statuses.WriteFault → Rose (K.faults sink.old) (K.faults sink.new) }
+    ensures complete { IsRunnable (S.left source.old) → (Rose (S.faults source.old) (S.faults source.new) → ⊥) → (Rose (K.faults sink.old) (K.faults sink.new) → ⊥) → (result ≡ statuses.Done) ⊎ (result ≡ statuses.NoMemory) }
 {
-    let script = match read_all(alloc, source, MOST_BYTES) {
+    let script = match read_all(alloc, source, MOST_INPUT_BYTES) {
         Ok(script) => script,
-        Err(ReadFault::Failed) => return Status::ReadFault,
-        Err(ReadFault::TooLong) => return Status::TooLong,
-        Err(ReadFault::NoMemory) => return Status::NoMemory,
+        Err(InputFault::Failed) => return Status::ReadFault,
+        Err(InputFault::TooLong) => return Status::TooLong,
+        Err(InputFault::NoMemory) => return Status::NoMemory,
     };
     let spans = match statements(alloc, &script) {
         Ok(spans) => spans,
@@ -52,7 +52,7 @@ pub fn put_script<S: Source, K: Sink>(alloc: Global, source: &mut S, sink: &mut 
 /// The statements of a script.
 fn statements(alloc: Global, script: &[u8]) -> Result<Spans, NoMemory>
     requires short { length script.now < 2 ^ 32 }
-    ensures { IfOk result (λ spans. spans ≡ statements_in (pieces_of script.now)) }
+    ensures { IfOk result (λ spans. spans ≡ all_statements (pieces_of script.now)) }
 {
     let mut statements = Listing::empty(alloc);
     let mut at = 0;

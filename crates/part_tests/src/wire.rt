@@ -1,5 +1,5 @@
 use lb_wire::{
-    Clock, DayClock, Failed, MemClock, MemSink, MemSource, ReadFault, Sink, Source, StdSink,
+    Clock, DayClock, Failed, InputFault, MemClock, MemSink, MemSource, Sink, Source, StdSink,
     StdSource, put_all, read_all,
 };
 use std::alloc::Global;
@@ -21,7 +21,7 @@ fn pattern(alloc: Global, len: u32) -> Result<Vec<u8>, Fail> {
 #[derive(Clone, Copy)]
 enum Want {
     All,
-    Fault(ReadFault, usize),
+    Fault(InputFault, usize),
 }
 
 #[test]
@@ -30,16 +30,16 @@ fn a_whole_input_is_read_or_its_fault_is_told(rt: HostRuntime) -> Result<(), Fai
         (0, 0, &[], Want::All),
         (0, 10, &[2], Want::All),
         (1, 1, &[], Want::All),
-        (1, 0, &[], Want::Fault(ReadFault::TooLong, 1)),
+        (1, 0, &[], Want::Fault(InputFault::TooLong, 1)),
         (10, 10, &[], Want::All),
-        (11, 10, &[], Want::Fault(ReadFault::TooLong, 11)),
-        (90, 10, &[], Want::Fault(ReadFault::TooLong, 11)),
+        (11, 10, &[], Want::Fault(InputFault::TooLong, 11)),
+        (90, 10, &[], Want::Fault(InputFault::TooLong, 11)),
         (4096, 4096, &[], Want::All),
-        (4097, 4096, &[], Want::Fault(ReadFault::TooLong, 4097)),
+        (4097, 4096, &[], Want::Fault(InputFault::TooLong, 4097)),
         (9000, usize::MAX, &[], Want::All),
-        (9000, 9999, &[1], Want::Fault(ReadFault::Failed, 0)),
-        (9000, 9999, &[2], Want::Fault(ReadFault::Failed, 4096)),
-        (9000, 9999, &[7, 4], Want::Fault(ReadFault::Failed, 9000)),
+        (9000, 9999, &[1], Want::Fault(InputFault::Failed, 0)),
+        (9000, 9999, &[2], Want::Fault(InputFault::Failed, 4096)),
+        (9000, 9999, &[7, 4], Want::Fault(InputFault::Failed, 9000)),
     ];
     for (len, most, fails, want) in table {
         let input = pattern(rt.alloc(), len)?;

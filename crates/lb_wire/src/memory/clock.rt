@@ -1,6 +1,6 @@
 ghost use Rattle.std.specs.Prelude.{◌≡◌, ◌-◌, ◌^◌, ◌==◌, ◌∷◌, [], Some, None, replicate, if◌then◌else◌};
 ghost use Rattle.lb_wire.specs.Days.{IsDay};
-ghost use Rattle.lb_wire.specs.Told.{Grows};
+ghost use Rattle.lb_wire.specs.Told.{GrewBy};
 
 use crate::Clock;
 
@@ -29,7 +29,7 @@ impl Clock for MemClock {
 
     fn today(&mut self) -> i32
         ensures range { IsDay result }
-        ensures days { Grows (⟦<MemClock as Clock>⟧.given self.old)
+        ensures days { GrewBy (⟦<MemClock as Clock>⟧.given self.old)
             (⟦<MemClock as Clock>⟧.given self.new) (result ∷ []) }
         ensures answer { result ≡ self.old.day }
         ensures day { self.new.day ≡ self.old.day }

@@ -11,13 +11,13 @@ pub returns-in-Err-clause-cut : goal.returns-in-Err-clause-cut
 returns-in-Err-clause-cut g c = not_begun _ _ _ _ _ _ _ c.in-Err.ensures.part
 
 pub loop-span-init : goal.loop-span-init
-loop-span-init g c = looping_first _ _ _ _ (map (text_in c.args.bytes.now) c.args.statements.now) _ _ _ _ _ _ c.requires.stands c.requires.seated c.in-Ok.ensures.ok c.put_header.ensures.later
+loop-span-init g c = looping_first _ _ (map (text_in c.args.bytes.now) c.args.statements.now) _ _ _ _ _ c.requires.stands c.requires.session_of c.in-Ok.ensures.ok c.put_header.ensures.later
 
 pub execute-answer-requires-clause-stands : goal.execute-answer-requires-clause-stands
 execute-answer-requires-clause-stands g c = c.loop-span.invariant.stands
 
-pub execute-answer-requires-clause-seated : goal.execute-answer-requires-clause-seated
-execute-answer-requires-clause-seated g c = c.loop-span.invariant.seated
+pub execute-answer-requires-clause-session_of : goal.execute-answer-requires-clause-session_of
+execute-answer-requires-clause-session_of g c = c.loop-span.invariant.session_of
 
 pub returns-in-Err-put_block-clause-cut : goal.returns-in-Err-put_block-clause-cut
 returns-in-Err-put_block-clause-cut g c =
@@ -25,7 +25,7 @@ returns-in-Err-put_block-clause-cut g c =
     let same : to_z w32 (of_z w32 c.today-day.result) ≡ c.today-day.result = to_z-of_z w32 c.today-day.result small in
     let all : List (List ℕ) = map (text_in c.args.bytes.now) c.args.statements.now in
     let more = mapped_more (text_in c.args.bytes.now) c.args.statements.now c.loop-span.span-index (0, 0) c.text_at.result.now c.text_at.ensures c.loop-span-test.true in
-    looping_cut _ _ _ _ _ _ _ _ _ _ all c.loop-span.span-index _ _ _ _ _ _ _ _ _ _ _ _ _ _ c.loop-span.invariant more c.execute-answer.ensures.ran c.execute-answer.ensures.stands c.execute-answer.ensures.limit
+    looping_cut _ _ _ _ _ _ all c.loop-span.span-index _ _ _ _ _ _ _ _ _ _ _ c.loop-span.invariant more c.execute-answer.ensures.ran c.execute-answer.ensures.stands c.execute-answer.ensures.limit
     (rw same c.today-day.ensures.days) c.in-Err-put_block.ensures.part
 
 pub returns-in-Err-put_block-clause-sessions : goal.returns-in-Err-put_block-clause-sessions
@@ -49,11 +49,11 @@ loop-span-preserved g c =
     let same : to_z w32 (of_z w32 c.today-day.result) ≡ c.today-day.result = to_z-of_z w32 c.today-day.result small in
     let all : List (List ℕ) = map (text_in c.args.bytes.now) c.args.statements.now in
     let more = mapped_more (text_in c.args.bytes.now) c.args.statements.now c.loop-span.span-index (0, 0) c.text_at.result.now c.text_at.ensures c.loop-span-test.true in
-    looping_on _ _ _ _ _ _ _ _ _ _ all c.loop-span.span-index _ _ _ _ _ _ _ _ _ _ _ _ _ _ _ _ c.loop-span.invariant more c.execute-answer.ensures.ran c.execute-answer.ensures.stands c.execute-answer.ensures.seated c.execute-answer.ensures.limit c.execute-answer.ensures.sessions
+    looping_on _ _ _ _ _ _ all c.loop-span.span-index _ _ _ _ _ _ _ _ _ _ _ _ c.loop-span.invariant more c.execute-answer.ensures.ran c.execute-answer.ensures.stands c.execute-answer.ensures.session_of c.execute-answer.ensures.limit c.execute-answer.ensures.sessions
     (rw same c.today-day.ensures.days) c.in-Ok-put_block.ensures.ok c.put_block.ensures.later
 
 pub returns-clause-ran : goal.returns-clause-ran
-returns-clause-ran g c = ended _ _ _ _ _ _ (map (text_in c.args.bytes.now) c.args.statements.now) _ _ _ _ _ _ _ c.loop-span.invariant (mapped_all (text_in c.args.bytes.now) c.args.statements.now c.loop-span.span-index c.loop-span-test.false)
+returns-clause-ran g c = ended _ _ _ _ (map (text_in c.args.bytes.now) c.args.statements.now) _ _ _ _ c.loop-span.invariant (mapped_all (text_in c.args.bytes.now) c.args.statements.now c.loop-span.span-index c.loop-span-test.false)
 
 pub returns-clause-stands : goal.returns-clause-stands
 returns-clause-stands g c = c.loop-span.invariant.stands
