@@ -9,7 +9,7 @@ use Rattle.lb_stmt.specs.declared.write.Stmt.{Stmt}
 use Rattle.lb_tok.specs.Canonical.{canonical}
 use Rattle.lb_tok.specs.Syntax.{IsReadable}
 use Rattle.lb_read.proofs.Again.{spoken}
-use Rattle.lb_wire.specs.Days.{IsDay}
+use Rattle.lb_base.specs.Days.{IsDay}
 use Rattle.lb_model.specs.declared.entry.Entry.{Entry}
 use Rattle.lb_model.specs.declared.entry.Entry.TheVariants as entries
 use Rattle.lb_model.specs.declared.entry.Said.{Said}

@@ -1,6 +1,6 @@
 // The journal of a run, its sessions, and the one call by which a session's statement is run.
 ghost use Rattle.std.specs.Prelude.{◌≡◌, ◌<◌, ◌^◌, ℕ, List, [], length, IfOk, IfErr, OnOk, OnErr, Some};
-ghost use Rattle.lb_wire.specs.Days.{IsDay};
+ghost use Rattle.lb_base.specs.Days.{IsDay};
 ghost use Rattle.lb_tok.specs.Syntax.{IsReadable};
 ghost use Rattle.lb_model.specs.declared.entry.Entry.TheVariants as entries;
 ghost use Rattle.lb_model.specs.Answer.{is_query as reads_only};

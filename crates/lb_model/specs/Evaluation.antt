@@ -2,6 +2,7 @@
 -- So far an expression is a column or SESSION_USER, and a condition compares two of them by `=`.
 use Rattle.std.specs.Prelude.{ℕ, Bool, true, false, ◌&&◌, List, [], ◌∷◌, Option, None, Some, if◌then◌else◌}
 use Rattle.std.specs.Str.{bytes_eq}
+use Rattle.lb_base.specs.Compare.{equal_of}
 use Rattle.lb_base.specs.declared.value.Value.{Value}
 use Rattle.lb_base.specs.declared.value.Value.TheVariants as values
 use Rattle.lb_base.specs.declared.truth.Truth.{Truth}
@@ -45,10 +46,10 @@ abbrev pub column_value : Column → List Cell → Value
 column_value c [] = values.Null
 column_value c (cell ∷ cells) = if is_qualified_by c.correlation cell.correlation && bytes_eq c.name cell.column then cell.value else column_value c cells
 
--- texts are equal byte by byte; a comparison with null is unknown
-abbrev pub equal : Value → Value → Truth
-equal (values.Text a) (values.Text b) = if bytes_eq a b then truths.True else truths.False
-equal _ _ = truths.Unknown
+-- `=` of two texts; so far no other values are compared, and null gives unknown
+abbrev pub text_equality : Value → Value → Truth
+text_equality (values.Text a) (values.Text b) = equal_of (values.Text a) (values.Text b)
+text_equality _ _ = truths.Unknown
 
 -- an expression and a condition, seen by what they are made of
 abbrev pub ExprLayer : Type 0
@@ -67,7 +68,7 @@ abbrev pub value_of : List ℕ → List Cell → Expr → Value
 value_of user frame e = layer_value user frame (out-Expr e)
 
 abbrev pub layer_truth : List ℕ → List Cell → CondLayer → Truth
-layer_truth user frame (layers.Cond-F.Compare comparisons.Equal a b) = equal (value_of user frame a) (value_of user frame b)
+layer_truth user frame (layers.Cond-F.Compare comparisons.Equal a b) = text_equality (value_of user frame a) (value_of user frame b)
 layer_truth user frame _ = truths.Unknown
 
 -- the truth of a condition in a session of the user, over the frame

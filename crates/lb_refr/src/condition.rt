@@ -93,7 +93,7 @@ fn compared(a: Option<&str>, b: Option<&str>) -> Truth
     ensures { result ≡ same_text (option_copied a.entry) (option_copied b.entry) }
 {
     match (a, b) {
-        (Some(a), Some(b)) => { if a == b { Truth::True } else { Truth::False } }
+        (Some(a), Some(b)) => Truth::of(a == b),
         _ => Truth::Unknown,
     }
 }

@@ -1,5 +1,4 @@
 pub mod Causes
-pub mod Days
 pub mod Inputs
 pub mod Memory
 pub mod Reading

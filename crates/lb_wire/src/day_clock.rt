@@ -1,7 +1,7 @@
 // The system's day.
 ghost use Rattle.std.specs.Prelude.{◌≡◌, ◌/◌, ◌∷◌, [], min, pos, MatchResult, None};
 ghost use Rattle.std.specs.Duration.{as_nanos};
-ghost use Rattle.lb_wire.specs.Days.{IsDay};
+ghost use Rattle.lb_base.specs.Days.{IsDay};
 ghost use Rattle.lb_wire.specs.Told.{GrewBy};
 
 use crate::Clock;

@@ -11,7 +11,7 @@ mod transfer;
 
 pub use day_clock::DayClock;
 pub use memory::{MemClock, MemSink, MemSource};
-pub use outside::{Clock, Failed, NoMemory, Sink, Source};
+pub use outside::{Clock, Failed, Sink, Source};
 pub use status::Status;
 pub use std_ends::{StdSink, StdSource};
 pub use transfer::{InputFault, MOST_INPUT_BYTES, put_all, read_all};

@@ -3,15 +3,12 @@ ghost use Rattle.std.specs.Prelude.{◌<◌, ◌∷◌, List, ℕ, ℤ, [], leng
 ghost use Rattle.std.specs.Io.{ReadsAtMost, WritesAtMost};
 ghost use Rattle.std.specs.Io.KnownBytes.{ReadConsumes, WriteAppends};
 ghost use Rattle.lb_wire.specs.Causes.{HasCause};
-ghost use Rattle.lb_wire.specs.Days.{IsDay};
+ghost use Rattle.lb_base.specs.Days.{IsDay};
 ghost use Rattle.lb_wire.specs.Told.{GrewBy};
 
 /// A source or a sink failed. Its count of faults has risen.
 #[derive(Clone, Copy, Debug, PartialEq, Eq)]
 pub struct Failed;
-
-/// Want of memory.
-pub type NoMemory = std::alloc::AllocError;
 
 /// Where bytes come from.
 pub trait Source {

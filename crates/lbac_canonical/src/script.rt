@@ -12,7 +12,7 @@ ghost use Rattle.lbac_canonical.specs.Ending.{Ends};
 use crate::line::line_of;
 use lb_base::Listing;
 use lb_split::{Piece, Span, Spans, resume, split, text_at};
-use lb_wire::{InputFault, MOST_INPUT_BYTES, NoMemory, Sink, Source, Status, put_all, read_all};
+use lb_wire::{InputFault, MOST_INPUT_BYTES, Sink, Source, Status, put_all, read_all};
 use std::alloc::Global;
 
 /// Why the lines were not all written.

@@ -2,7 +2,8 @@
 ghost use Rattle.std.specs.Prelude.{◌≡◌, ◌≤◌, ◌+◌, ◌-◌, ◌^◌, ◌↔◌, min, IfOk, IsTrue};
 ghost use Rattle.std.specs.List.{Contains};
 
-use crate::{Failed, NoMemory};
+use crate::Failed;
+use lb_base::NoMemory;
 use std::alloc::Global;
 
 /// How many calls there were, how many of them failed, and which are to fail.

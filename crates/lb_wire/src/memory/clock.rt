@@ -1,5 +1,5 @@
 ghost use Rattle.std.specs.Prelude.{◌≡◌, ◌-◌, ◌^◌, ◌==◌, ◌∷◌, [], Some, None, replicate, if◌then◌else◌};
-ghost use Rattle.lb_wire.specs.Days.{IsDay};
+ghost use Rattle.lb_base.specs.Days.{IsDay};
 ghost use Rattle.lb_wire.specs.Told.{GrewBy};
 
 use crate::Clock;

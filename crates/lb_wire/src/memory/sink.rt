@@ -6,7 +6,8 @@ ghost use Rattle.lb_wire.specs.Causes.{HasCause};
 ghost use Rattle.lb_wire.specs.Memory.{sink_fails, sink_made, sink_room, bytes_written};
 
 use super::calls::Calls;
-use crate::{Failed, NoMemory, Sink};
+use crate::{Failed, Sink};
+use lb_base::NoMemory;
 use std::alloc::Global;
 
 /// A sink in memory. It tells its bytes.

@@ -6,7 +6,8 @@ ghost use Rattle.lb_wire.specs.Causes.{HasCause};
 ghost use Rattle.lb_wire.specs.Memory.{source_fails, source_made, bytes_left};
 
 use super::calls::Calls;
-use crate::{Failed, NoMemory, Source};
+use crate::{Failed, Source};
+use lb_base::NoMemory;
 use std::alloc::Global;
 
 /// A source in memory. It tells its bytes.
