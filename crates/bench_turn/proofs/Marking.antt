@@ -1,4 +1,4 @@
--- A mark belongs to its worker.
+-- A mark belongs to its worker: the premise of `record` for each mark that a worker makes.
 use Rattle.std.proofs.Common.{◌≡◌, ◌⊎◌, inl, inr, ℕ, min, List, [], ◌∷◌, ◌++◌, length, Option, Some, refl, sym, subst, arith}
 use Rattle.std.specs.List.{Contains}
 use mathlib.Core.Logic.{dite}

@@ -1,4 +1,4 @@
--- The root of a mark: where its worker began.
+-- The root of a mark: where its worker began. The turn asks of each mark that its root is one of the recording pass's own places.
 use Rattle.std.specs.Prelude.{◌≡◌, ℕ, zero, suc, ◌<◌, ◌≤◌, List, [], ◌∷◌, ◌++◌, length, min, slice_get, Option, Some, None, refl, ⊤}
 use Rattle.std.specs.List.{Contains}
 use Rattle.std.proofs.Common.{ap, arith}

@@ -1,7 +1,6 @@
-//! The workers.
+//! The workers: each has a pass of its own and makes its holds in a thread of its own, between a mark that it begins and one that it ends.
 ghost use Rattle.std.specs.Prelude.{◌≡◌, ◌+◌, ◌<◌, ◌≤◌, [], ◌∷◌, ◌++◌, length, IfSome, IfNone, vec_len};
 ghost use Rattle.std.specs.List.{All, Contains};
-ghost use mathlib.Core.List.{IsPrefix};
 ghost use Rattle.lb_turn.specs.Passes.{IsChief, IsIdle, IsSameSeat, IsSplit, own_by, pass_of, passes_of, seen_by};
 ghost use Rattle.bench_turn.specs.Marks.{IsBegun};
 
@@ -125,11 +124,11 @@ fn work_all<R: Threads + Wait + Sync>(
     }
 }
 
-/// The register at the end.
+/// The register at the end: its marks are what the chief has seen.
 fn ended(turn: Turn<Register>, chief: Chief<Mark>) -> Register
     requires chief { IsChief (λ r. 0) turn chief }
     requires alone { passes_of chief ≡ 0 }
-    ensures { IsPrefix (seen_by (pass_of chief)) result.marks.items }
+    ensures { result.marks.items ≡ seen_by (pass_of chief) }
 {
     turn.close(chief)
 }
