@@ -1,4 +1,4 @@
--- Each kind of step keeps the rule of the turn.
+-- Each kind of step keeps the rule of the turn, and tells what `specs/Steps.antt` says. The answers of the functions of `steps.rt` cite these lemmas.
 use Rattle.std.proofs.Common.{◌≡◌, ◌≢◌, inl, inr, ⊎_elim, ℕ, zero, suc, ◌+◌, ◌-◌, ◌%◌, ◌^◌, ◌<◌, ◌≤◌, List, [], ◌∷◌, ◌++◌, length, set, drop, Option, Some, None, IsSome, refl, sym, ap, ◌∙◌, subst, arith, length-append, eq-eqb, ◌==◌, length-set, slice_index, lt_of_not-le}
 use Rattle.std.specs.List.{Contains}
 use Rattle.std.proofs.lemmas.List.Elements.{Contains-append_left, Contains-append_right, Contains-append_cases}

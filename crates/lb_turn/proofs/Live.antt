@@ -1,4 +1,4 @@
--- The live views are the chief's and as many as the parts that it lacks.
+-- The live views are the chief's and as many as the parts that it lacks: the proof of the law `live_views`.
 use Rattle.std.proofs.Common.{◌≡◌, ℕ, suc, ◌+◌, ◌<◌, ◌≤◌, Bool, true, false, nat_lt, if◌then◌else◌, List, [], ◌∷◌, refl, sym, ap, arith}
 use Rattle.std.proofs.lemmas.Bool.Decides.{nat_tests}
 use mathlib.Core.Option.{some, some-ne-none, some-injective}

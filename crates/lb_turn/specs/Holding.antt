@@ -1,4 +1,4 @@
--- What is known while a pass holds the turn.
+-- What is known while a pass holds the turn. The contracts of `hold` and of the calls of `Held` are stated in these words.
 use Rattle.std.specs.Prelude.{◌≡◌, ℕ, ◌<◌, List, [], ◌∷◌, ◌++◌, length, Option, Some, None, IsSome}
 use Rattle.std.specs.Borrow.{MutBor}
 use Rattle.atomic_table.specs.Table.{Me}

@@ -1,4 +1,4 @@
--- What the count of parts means in live views.
+-- What the count of parts means in live views: the statement of the law `live_views`.
 use Rattle.std.specs.Prelude.{◌≡◌, ℕ, ◌+◌, ◌<◌, ◌≤◌, List, [], ◌∷◌, nat_lt, if◌then◌else◌, Option}
 use mathlib.Core.Option.{some}
 use lib.ListN.{get_elem?}

@@ -1,4 +1,4 @@
--- What a lender ends with.
+-- What a lender ends with: the clauses of the two calls that lend a part of what they are given.
 use Rattle.std.specs.Prelude.{Some, []}
 use Rattle.std.specs.Borrow.{follows, Lends, MutBor, Fml}
 use denote.RattleType.{RattleType}

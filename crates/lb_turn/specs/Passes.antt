@@ -1,4 +1,4 @@
--- What contracts say of a pass and of the chief.
+-- What contracts say of a pass and of the chief. Callers keep these facts from call to call.
 use Rattle.std.specs.Prelude.{◌≡◌, ℕ, ◌+◌, ◌<◌, List, [], ◌∷◌}
 use Rattle.lb_turn.specs.declared.rule.Role.TheVariants.{Idle}
 use Rattle.lb_turn.specs.declared.rule.Known.{Known}

@@ -1,4 +1,4 @@
-//! The state while a pass holds the turn.
+//! The state while a pass holds the turn: a caller works on it, records what it added, and gives it back.
 ghost use Rattle.std.specs.Prelude.{◌≡◌, ◌+◌, ◌^◌, ◌<◌, [], ◌∷◌, ◌++◌, length, Some};
 ghost use types.Logic.{sem};
 ghost use Rattle.lb_turn.specs.Lending.{lends_state};

@@ -1,4 +1,4 @@
-//! A law of the rule.
+//! A law of the rule, as the contract of a call, so that it is proved: what the count of parts means in live views.
 ghost use Rattle.lb_turn.specs.Laws.{LiveViews};
 
 use crate::standing::Standing;

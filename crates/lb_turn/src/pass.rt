@@ -1,4 +1,4 @@
-//! A seat at a turn.
+//! A seat at a turn, which a thread carries. What it knows of the history stands in contracts alone.
 use crate::rule::View;
 use atomic_table::Badge;
 

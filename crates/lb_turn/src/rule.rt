@@ -1,4 +1,4 @@
-//! What a seat at the turn knows, and the kinds of step that it may take.
+//! What a seat at the turn knows, and the kinds of step that it may take. `atomic_table` wants each as a type; none has a value.
 
 use crate::standing::Standing;
 use atomic_table::{Join, Play, Split, TableRule};

@@ -1,4 +1,4 @@
-//! What a value under a turn stands for.
+//! What a value under a turn stands for: the trait by which the layer above says what its history and its roots are.
 
 /// A value that stands for a history of entries and has a number that stays.
 ///

@@ -1,4 +1,4 @@
-//! The turn.
+//! The turn itself: a table of three words and a slot, which threads share by reference.
 ghost use Rattle.std.specs.Prelude.{◌≡◌};
 
 use crate::rule::{Ruled, View};
