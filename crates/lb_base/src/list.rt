@@ -1,4 +1,4 @@
-// The one list type behind the project's lists: a `Vec` that contracts see as the list of its items.
+// The one list type of the project's lists: a `Vec` that contracts see as the list of its items.
 ghost use Rattle.std.specs.Prelude.{◌≡◌, ◌++◌, ◌∷◌, [], length, slice_get, slice_set, ◌<◌, OnErr, OnOk};
 ghost use Rattle.std.specs.Option.{option_copied};
 

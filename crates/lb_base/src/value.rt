@@ -1,4 +1,4 @@
-// Values of columns and expressions.
+// Values of columns and expressions, and rows of them. A value owns its memory; `copy` makes an equal one.
 ghost use Rattle.std.specs.Prelude.{◌≡◌, IfOk};
 
 use crate::{Listing, Name, NoMemory, Str};

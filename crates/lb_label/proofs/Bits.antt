@@ -1,4 +1,4 @@
--- One bit of a number.
+-- One bit of a number: setting it, testing it, and what stays. Parts of SET and TREE components are bits.
 use Rattle.std.proofs.Common.{◌≡◌, refl, ap, sym, ◌∙◌, ℕ, ◌+◌, ◌*◌, ◌/◌, ◌^◌, ◌%◌, ◌<◌, ◌≤◌, ◌≢◌, ◌⊎◌, ⊎_elim, Bool, true, false, cond, ◌||◌, ◌&&◌, eqb, arith, bit_or, bit_and, max, min, subst}
 use Rattle.std.proofs.Math.Bool.{or-false}
 use Rattle.std.proofs.Math.Nat.{mod-eq_of_lt}

@@ -1,4 +1,4 @@
--- Labels, component by component.
+-- Labels, component by component: from the parts of a label to the lists of elements that they stand for.
 use Rattle.std.proofs.Common.{◌≡◌, refl, ap, sym, ◌∙◌, ℕ, zero, suc, ◌+◌, ◌<◌, ◌≤◌, Bool, true, false, cond, if◌then◌else◌, List, [], ◌∷◌, length, drop, get_or, Option, None, Some, subst, arith}
 use Rattle.std.proofs.lemmas.List.{drop_more, drop_all}
 use Rattle.lb_label.specs.declared.access.Fail.{Fail}

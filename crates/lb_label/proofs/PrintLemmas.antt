@@ -19,7 +19,7 @@ elements_below c part =
     All-filter (has_element c.kind part) (λ e. e < length c.elements) (numbers (length c.elements))
     (All-from_recursion (λ e. e < length c.elements) (numbers (length c.elements)) (range_below 0 (length c.elements) (length c.elements) (omega arith)))
 
--- ---- one piece more behind those that are joined
+-- ---- one piece more after those that are joined
 
 pub joined_first : (c : ℕ) (f : ℕ → List ℕ) (xs : List ℕ) (i : ℕ) → i ≡ 0 → i < length xs → join_with_byte c (map f (take (i + 1) xs)) ≡ join_with_byte c (map f (take i xs)) ++ f (get_or xs i 0)
 joined_first c f [] i none within = absurd (omega arith)

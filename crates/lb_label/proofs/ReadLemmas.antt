@@ -27,7 +27,7 @@ part_read c valid at part bits made =
 pub part_fails : (c : Definition) → IsComponent c → (at : ℕ) (part : List ℕ) (place : ℕ) → with_names c (at + named_from part) (named_in part) 0 ≡ Err place → failing_in c at part ≡ Some place
 part_fails c valid at part place made = names_read c valid (at + named_from part) (named_in part) (Err place) made
 
--- a label that was read behind components that were read before
+-- a label that was read after components that were read before
 abbrev pub behind : List (List ℕ) → Result (List (List ℕ)) ℕ → Result (List (List ℕ)) ℕ
 behind before (Ok label) = Ok (before ++ label)
 behind before (Err place) = Err place

@@ -1,4 +1,4 @@
--- Components held in places.
+-- The components of a policy as a list, where the code keeps them in sixteen places.
 use Rattle.std.proofs.Common.{◌≡◌, refl, ap, sym, ◌∙◌, ℕ, zero, suc, ◌+◌, ◌<◌, ◌≤◌, List, [], ◌∷◌, ◌++◌, length, get_or, Option, Some, None, Result, Ok, Err, ◌↔◌, OnOk, IsErr, take, arith, subst}
 use Rattle.std.proofs.lemmas.List.{length-take-le, take_more}
 use Rattle.std.specs.Arc.{arc_value}

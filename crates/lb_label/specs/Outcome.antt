@@ -1,4 +1,4 @@
--- What adding an element answers.
+-- What adding an element to a component answers: the first cause to refuse it, or out of memory.
 use Rattle.std.specs.Prelude.{◌≡◌, Option, None, Some, Result, Ok, Err}
 use Rattle.lb_label.specs.declared.component.ElementFault.{ElementFault}
 use Rattle.lb_label.specs.declared.component.ElementFault.TheVariants.{TooMany, BadElement, Repeated, NoParent, NoMemory}

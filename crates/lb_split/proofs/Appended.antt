@@ -74,8 +74,8 @@ inside_stays p (b ∷ (c ∷ cs)) more h = go (is_inside (behind p b (c ∷ cs))
   where
     go : (e g : Bool) → is_inside (behind p b (c ∷ cs)) b ≡ e → is_gap (behind p b (c ∷ cs)) b ≡ g
         → (passed_len is_inside (behind p b (c ∷ cs)) (c ∷ cs) < length (c ∷ cs)
-            → (passed_len is_inside (behind p b (c ∷ cs)) (c ∷ (cs ++ more)) ≡ passed_len is_inside (behind p b (c ∷ cs)) (c ∷ cs))
-            × (passed_len is_gap (behind p b (c ∷ cs)) (c ∷ (cs ++ more)) ≡ passed_len is_gap (behind p b (c ∷ cs)) (c ∷ cs)))
+        → (passed_len is_inside (behind p b (c ∷ cs)) (c ∷ (cs ++ more)) ≡ passed_len is_inside (behind p b (c ∷ cs)) (c ∷ cs))
+        × (passed_len is_gap (behind p b (c ∷ cs)) (c ∷ (cs ++ more)) ≡ passed_len is_gap (behind p b (c ∷ cs)) (c ∷ cs)))
         → cond e (passed_len is_inside (behind p b (c ∷ cs)) (c ∷ cs) + 1) 0 < suc (length (c ∷ cs))
         → (passed_len is_inside p (b ∷ (c ∷ (cs ++ more))) ≡ passed_len is_inside p (b ∷ (c ∷ cs))) × (passed_len is_gap p (b ∷ (c ∷ (cs ++ more))) ≡ passed_len is_gap p (b ∷ (c ∷ cs)))
     go false g e f then k = (stops_still is_inside p b c cs more e, stops_still is_gap p b c cs more (no_gap (behind p b (c ∷ cs)) b e))
@@ -183,6 +183,7 @@ header_stays text more h =
     let short : gap_len text < length text = gap_short Open text h in
     ap (λ (n : ℕ). begins 64 (drop n (text ++ more))) same ∙ ap (begins 64) (drop-append-le (gap_len text) text more (omega (arith, short)))
     ∙ some_more (drop (gap_len text) text) more (omega (arith, short, length-drop (gap_len text) text))
+
 kind_stays : (text more : List ℕ) → statement_len text < length text → piece_kind (text ++ more) ≡ piece_kind text
 kind_stays text more h =
     ap (λ (b : Bool). cond b piece_kinds.Header (cond (is_blank (statement_of (text ++ more))) piece_kinds.Blank (cond (is_quit (statement_of (text ++ more))) piece_kinds.Quit piece_kinds.Statement))) (header_stays text more h)
@@ -221,8 +222,7 @@ blank_stays bytes more at lt kind rest ended =
     let len_now : statement_len (drop at (bytes ++ more)) ≡ n = ap statement_len (rest_of bytes more at lt) ∙ (inside_stays Open text more short).0 in
     let there : pieces_from (bytes ++ more) at ≡ pieces_from (bytes ++ more) (at + (n + 1)) =
     step (bytes ++ more) at piece_kinds.Blank (longer bytes more at lt) kind_now ∙ ap (λ (m : ℕ). pieces_from (bytes ++ more) (at + (m + 1))) len_now in
-    let next = rest ended_next in
-    (
+    let next = rest ended_next in (
       ap first_of there ∙ next.0 ∙ sym (ap first_of here),
       subst (λ (ps : List Piece). GoesOnThere bytes (bytes ++ more) (first_of ps)) (sym here) next.1,
     )

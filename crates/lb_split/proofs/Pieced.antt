@@ -60,7 +60,7 @@ quit_there text e = blank_true (begins 64 (drop (gap_len text) text)) _ (is_quit
 pub statement_there : (text : List ℕ) → piece_kind text ≡ piece_kinds.Statement → is_blank (statement_of text) ≡ false
 statement_there text e = blank_true' (begins 64 (drop (gap_len text) text)) _ (is_quit (statement_of text)) e
 
--- a statement that isn't blank goes on behind its white space
+-- a statement that isn't blank goes on after its white space
 pub beyond_white : (text : List ℕ) → is_blank (statement_of text) ≡ false → white_len text < statement_len text
 beyond_white text h = lt_by (statement_len text) (white_len text) (white_blank (statement_len text) text)
   where

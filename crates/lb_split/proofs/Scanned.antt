@@ -35,7 +35,7 @@ passed_none test p [] (suc i) h = refl
 passed_none test p (b ∷ bs) zero h = absurd (omega arith)
 passed_none test p (b ∷ bs) (suc i) h = passed_none test p bs i (omega arith)
 
--- a line's end is never behind the next line's start
+-- a line's end is never after the next line's start
 line_cons : (b : ℕ) (bs : List ℕ) → (b == 10 || b == 13 && begins 10 bs) ≡ false → line_len (b ∷ bs) ≡ line_len bs + 1
 line_cons b bs h = rw h refl
 

@@ -1,4 +1,4 @@
--- One section after the other.
+-- The loop over the pieces of a script keeps what the sections so far are.
 use Rattle.std.proofs.Common.{Bool, true, false, ◌≡◌, ℕ, ◌+◌, ◌-◌, ◌<◌, ◌≤◌, List, [], ◌∷◌, ◌++◌, length, Option, Some, None, Ok, Err, refl, sym, ap, ◌∙◌, arith, append_assoc, append-nil}
 use Rattle.std.specs.Prelude.{◌&&◌, not}
 use Rattle.lb_split.specs.Pieces.{pieces_from, before, resumed}

@@ -1,4 +1,4 @@
--- What a header line says.
+-- What a header line says: who opens the session, with which groups; or that the line is malformed.
 use Rattle.std.specs.Prelude.{ℕ, ◌==◌, ◌&&◌, ◌||◌, Bool, true, false, List, [], ◌∷◌, length, filter, codes, nat_le, Option, Some, None, if◌then◌else◌}
 use Rattle.std.specs.List.{slice_split}
 use Rattle.std.specs.Str.{bytes_eq}

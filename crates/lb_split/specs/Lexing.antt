@@ -15,14 +15,14 @@ abbrev pub begins : ℕ → List ℕ → Bool
 begins c [] = false
 begins c (b ∷ bs) = b == c
 
--- Where the reading is behind a byte, before the bytes that follow it. A `'` begins a text and a `'` ends it;
+-- Where the reading is after a byte, before the bytes that follow it. A `'` begins a text and a `'` ends it;
 -- a `--` outside texts begins a comment and the line's end ends it.
 abbrev pub behind : Place → ℕ → List ℕ → Place
 behind Open b rest = if b == 39 then Quoted else if b == 45 && begins 45 rest then Comment else Open
 behind Quoted b rest = if b == 39 then Open else Quoted
 behind Comment b rest = if b == 10 then Open else Comment
 
--- how many bytes pass a test, up to the first that fails; the test is given the place behind the byte, and the byte
+-- how many bytes pass a test, up to the first that fails; the test is given the place after the byte, and the byte
 abbrev pub passed_len : (Place → ℕ → Bool) → Place → List ℕ → ℕ
 passed_len test place [] = 0
 passed_len test place (b ∷ bs) = if test (behind place b bs) b then passed_len test (behind place b bs) bs + 1 else 0
@@ -55,7 +55,7 @@ is_blank text = gap_len text == length text
 abbrev pub white_len : List ℕ → ℕ
 white_len text = prefix_len is_white text
 
--- the word QUIT in any case, with white space and comments before and behind it
+-- the word QUIT in any case, with white space and comments before and after it
 abbrev pub is_quit : List ℕ → Bool
 is_quit text = bytes_eq (folded (take 4 (drop (gap_len text) text))) (codes "QUIT") && is_blank (drop 4 (drop (gap_len text) text))
 

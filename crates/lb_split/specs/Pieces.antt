@@ -1,4 +1,4 @@
--- The pieces of a script, each with the offset of its first byte and the offset behind its last one.
+-- The pieces of a script, each with the offset of its first byte and the offset after its last one.
 use Rattle.std.specs.Prelude.{ℕ, zero, suc, ◌≡◌, ◌+◌, ◌-◌, ◌≤◌, ◌<◌, ⊤, List, [], ◌∷◌, length, take, drop, Option, Some, None, min, if◌then◌else◌}
 use Rattle.lb_split.specs.Lexing.{begins, gap_len, statement_len, is_blank, white_len, is_quit, line_len, next_line, next_header_line}
 use Rattle.lb_split.specs.declared.piece.Piece.{Piece}
@@ -10,7 +10,7 @@ use Rattle.lb_split.specs.declared.scan.PieceKind.TheVariants as piece_kinds
 abbrev pub statement_of : List ℕ → List ℕ
 statement_of text = take (statement_len text) text
 
--- What begins at the start of a statement: behind white space and comments a `@` begins a header line;
+-- What begins at the start of a statement: after white space and comments a `@` begins a header line;
 -- else it is a statement, blank or QUIT or another one.
 abbrev pub piece_kind : List ℕ → PieceKind
 piece_kind text =
@@ -39,7 +39,7 @@ abbrev pub with_some : Option Piece → List Piece → List Piece
 with_some None ps = ps
 with_some (Some p) ps = p ∷ ps
 
--- The pieces of a text that stands at this offset, behind so many bytes of it: those bytes are passed over, and
+-- The pieces of a text that stands at this offset, after so many bytes of it: those bytes are passed over, and
 -- then one piece comes after the other.
 abbrev pub pieces_in : List ℕ → ℕ → ℕ → List Piece
 pieces_in [] at skip = []
@@ -59,14 +59,14 @@ abbrev pub first_of : List Piece → Piece
 first_of [] = pieces.End
 first_of (p ∷ ps) = p
 
--- a piece before others; nothing comes behind the end
+-- a piece before others; nothing comes after the end
 abbrev pub before : Piece → List Piece → List Piece
 before (pieces.Header from to) ps = pieces.Header from to ∷ ps
 before (pieces.Statement from to) ps = pieces.Statement from to ∷ ps
 before (pieces.Quit from to) ps = pieces.Quit from to ∷ ps
 before pieces.End ps = []
 
--- The offset at which what comes behind a piece starts: behind the line of a header, behind the `;` of a statement,
+-- The offset at which what comes after a piece starts: after the line of a header, after the `;` of a statement,
 -- and for QUIT the next line that begins with `@`. Where nothing comes it is the number of bytes.
 abbrev pub resumed : List ℕ → Piece → ℕ
 resumed bytes (pieces.Header from to) = to + next_line (drop to bytes)

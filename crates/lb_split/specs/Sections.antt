@@ -33,7 +33,7 @@ IsNextWithin bytes (Some span) = IsSpan bytes span.0 span.1
 abbrev pub empty_script : Script
 empty_script = record { setup = None; sessions = [] }
 
--- a script with one section more behind its others
+-- a script with one section more after its others
 abbrev pub added_by : SectionKind → Section → Script → Script
 added_by Setup section script = record { setup = Some section; sessions = script.sessions }
 added_by Session section script = record { setup = script.setup; sessions = script.sessions ++ section ∷ [] }

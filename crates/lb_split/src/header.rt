@@ -1,4 +1,4 @@
-// Header lines.
+// Reads a header line, `@SESSION` or `@SETUP`.
 ghost use Rattle.std.specs.Prelude.{◌≡◌, ◌∷◌, [], IfOk, MatchOption, codes, not, length, ◌≤◌, drop};
 ghost use Rattle.std.specs.List.{prefix_len};
 ghost use Rattle.lb_base.specs.Names.{name_of};
@@ -108,7 +108,7 @@ fn name(alloc: Global, word: &[u8]) -> Result<Option<Name>, NoMemory>
     }
 }
 
-/// The groups that the words behind the user say: none where no word is left, else GROUPS and 1 to 16 names.
+/// The groups that the words after the user say: none where no word is left, else GROUPS and 1 to 16 names.
 fn groups(alloc: Global, words: Words) -> Result<Option<Names>, NoMemory>
     ensures { IfOk result (λ g. g ≡ groups_of words.entry) }
 {

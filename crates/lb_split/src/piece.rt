@@ -6,7 +6,7 @@ use crate::scan::{
     PieceKind, gap_len, line_len, next_header_line, next_line, statement_len, tail, white_len,
 };
 
-/// A piece of a script. Its first number is the offset of its first byte, its second one the offset behind its last
+/// A piece of a script. Its first number is the offset of its first byte, its second one the offset after its last
 /// byte. A `;` and a line's end don't belong to it.
 #[derive(Clone, Copy, Debug, PartialEq, Eq)]
 pub enum Piece {
@@ -66,7 +66,7 @@ fn first_piece(text: &[u8], at: u32) -> Option<Piece>
     }
 }
 
-/// The offset at which `split` goes on behind a piece: behind the line of a header, behind the `;` of a statement, and
+/// The offset at which `split` goes on after a piece: after the line of a header, after the `;` of a statement, and
 /// for QUIT the next line whose first byte is `@`. Where nothing is left it is the number of bytes.
 pub fn resume(bytes: &[u8], piece: Piece) -> u32
     requires short { length bytes.now < 2 ^ 32 }

@@ -15,7 +15,7 @@ pub enum Place {
 }
 
 impl Place {
-    /// The place behind a byte, before the bytes that follow it.
+    /// The place after a byte, before the bytes that follow it.
     fn behind(self, b: u8, rest: &[u8]) -> Place
         ensures { result ≡ place_behind self b rest.now }
     {
@@ -165,7 +165,7 @@ fn is_quit(text: &[u8]) -> bool
 /// What begins at the start of a statement.
 #[derive(Clone, Copy)]
 pub enum PieceKind {
-    /// A header line, behind white space and comments.
+    /// A header line, after white space and comments.
     Header,
     /// A statement of white space and comments alone.
     Blank,

@@ -1,4 +1,4 @@
-// The sections of a script.
+// Takes a whole script apart into its sections, or finds the line at which it breaks the form.
 ghost use Rattle.std.specs.Prelude.{◌≡◌, ◌<◌, ◌≤◌, ◌^◌, ◌∷◌, ◌++◌, [], length, IfOk, slice_range};
 ghost use Rattle.lb_split.specs.declared.script.ScriptFault.TheVariants as faults;
 ghost use Rattle.lb_split.specs.Pieces.{IsSpan, pieces_from};
@@ -10,7 +10,7 @@ use crate::piece::{Piece, resume, split};
 use lb_base::{Listing, Name, Names, NoMemory};
 use std::alloc::{AllocError, Global};
 
-/// The offset of a statement's first byte, and the offset behind its last one.
+/// The offset of a statement's first byte, and the offset after its last one.
 pub type Span = (u32, u32);
 
 /// Statements in order.
@@ -178,7 +178,7 @@ impl Script {
         }
     }
 
-    /// The script with one section more behind the others.
+    /// The script with one section more after the others.
     fn with(self, header: Header, statements: Spans) -> Result<Script, NoMemory>
         ensures { IfOk result (λ s. s ≡ added self header statements) }
     {

@@ -1,4 +1,4 @@
-// Copies of statements.
+// Copies of statements. A tree owns its memory, so what is to be kept and run is copied.
 ghost use Rattle.std.specs.Prelude.{◌≡◌, IfOk};
 
 use crate::{

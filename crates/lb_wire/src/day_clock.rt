@@ -1,4 +1,5 @@
-// The system's day.
+// The system's clock as a clock that gives days. It can't fail: where the system's does, it gives the day that it
+// gave last.
 ghost use Rattle.std.specs.Prelude.{◌≡◌, ◌/◌, ◌∷◌, [], min, pos, MatchResult, None};
 ghost use Rattle.std.specs.Duration.{as_nanos};
 ghost use Rattle.lb_base.specs.Days.{IsDay};
