@@ -1,3 +1,4 @@
+// How a whole run ended, and the exit status that says so.
 ghost use Rattle.std.specs.Prelude.{◌≡◌};
 ghost use Rattle.lb_wire.specs.Statuses.{number_of};
 

@@ -1,3 +1,4 @@
+// Blocks of answers, one for each reply and each refusal, against texts that were written by hand.
 use lb_base::{Listing, Name, NoMemory, Row, RowList, Rule, Str, Value};
 use lb_block::{bad_script, block, header};
 use lb_model::{Answer, Flaw, LimitOf, Mark, Refusal, Reply, Right, Verb};

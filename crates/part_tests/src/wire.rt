@@ -1,3 +1,4 @@
+// Sources, sinks and clocks: what calls with ample memory answer, in memory and over std.
 use lb_wire::{
     Clock, DayClock, Failed, InputFault, MemClock, MemSink, MemSource, Sink, Source, StdSink,
     StdSource, put_all, read_all,

@@ -1,3 +1,4 @@
+// A clock in memory, which gives the day that it was made with, for tests of what asks for days.
 ghost use Rattle.std.specs.Prelude.{◌≡◌, ◌-◌, ◌^◌, ◌==◌, ◌∷◌, [], Some, None, replicate, if◌then◌else◌};
 ghost use Rattle.lb_base.specs.Days.{IsDay};
 ghost use Rattle.lb_wire.specs.Told.{GrewBy};

@@ -1,3 +1,4 @@
+// A sink in memory, which keeps what was written and fails at the calls that were named, for tests of what writes.
 ghost use Rattle.std.specs.Prelude.{◌≡◌, ◌<◌, ◌+◌, ◌-◌, ◌^◌, ◌⊎◌, Some, [], length, min, IfOk, OnErr, IsErr, take};
 ghost use Rattle.std.specs.Io.{WritesAtMost};
 ghost use Rattle.std.specs.Io.KnownBytes.{WriteAppends};

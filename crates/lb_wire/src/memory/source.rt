@@ -1,3 +1,4 @@
+// A source in memory, which gives its bytes and fails at the calls that were named, for tests of what reads.
 ghost use Rattle.std.specs.Prelude.{◌≡◌, ◌≤◌, ◌+◌, ◌-◌, ◌^◌, ◌↔◌, Some, [], drop, length, min, IfOk, IsErr, take};
 ghost use Rattle.std.specs.Io.{ReadsAtMost};
 ghost use Rattle.std.specs.Io.KnownBytes.{ReadConsumes};
