@@ -44,7 +44,7 @@ module _ {S N : Type 0} where
   abbrev pub state_in : Held S N → Option S
   state_in h = h.state
 
-  -- it is lent to this pass, which is the value after this reference
+  -- it is lent to this pass, which is the value behind this reference
   abbrev pub IsLentTo : MutBor (Pass N) → Held S N → Type 0
   IsLentTo p h = h.pass.ghost_name ≡ p.ghost_name
 
