@@ -36,9 +36,9 @@ same_bit : (n a b i : ℕ) → chosen (λ e. eqb (bit_at a e) 1) n ≡ chosen (�
 same_bit n a b i same below = ⊎_elim
     (λ (set : bit_at a i ≡ 1). set ∙ sym (over a b same set))
     (λ (clear : bit_at a i ≡ 0). ⊎_elim
-      (λ (set : bit_at b i ≡ 1). over b a (sym same) set ∙ sym set)
-      (λ (other : bit_at b i ≡ 0). clear ∙ sym other)
-      (bit_or_not b i))
+    (λ (set : bit_at b i ≡ 1). over b a (sym same) set ∙ sym set)
+    (λ (other : bit_at b i ≡ 0). clear ∙ sym other)
+    (bit_or_not b i))
     (bit_or_not a i)
   where
     over : (x y : ℕ) → chosen (λ e. eqb (bit_at x e) 1) n ≡ chosen (λ e. eqb (bit_at y e) 1) n → bit_at x i ≡ 1 → bit_at y i ≡ 1

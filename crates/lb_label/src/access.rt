@@ -94,7 +94,13 @@ fn failing(
     ensures { result ≡ failing_rule access (is_exempt exempt.now) component.now (elements_in component.now user) (elements_in component.now value) }
 {
     match (access, component.kind()) {
-        (Access::Read, ComponentKind::Set) => unless_exempt(Rule::ReadSet, component, user, exempt, value),
+        (Access::Read, ComponentKind::Set) => unless_exempt(
+            Rule::ReadSet,
+            component,
+            user,
+            exempt,
+            value,
+        ),
         (Access::Read, ComponentKind::Array) => unless_exempt(
             Rule::ReadArray,
             component,
@@ -102,8 +108,20 @@ fn failing(
             exempt,
             value,
         ),
-        (Access::Read, ComponentKind::Tree) => unless_exempt(Rule::ReadTree, component, user, exempt, value),
-        (Access::Write, ComponentKind::Set) => unless_exempt(Rule::WriteSet, component, user, exempt, value),
+        (Access::Read, ComponentKind::Tree) => unless_exempt(
+            Rule::ReadTree,
+            component,
+            user,
+            exempt,
+            value,
+        ),
+        (Access::Write, ComponentKind::Set) => unless_exempt(
+            Rule::WriteSet,
+            component,
+            user,
+            exempt,
+            value,
+        ),
         (Access::Write, ComponentKind::Array) => match unless_exempt(
             Rule::WriteDown,
             component,
