@@ -163,7 +163,7 @@ pub enum Join {
     Cross(Tab),
 }
 
-/// A table of FROM and the joins behind it.
+/// A table of FROM and the joins after it.
 #[cycle(tree)]
 #[derive(Drop)]
 pub struct Chain {
