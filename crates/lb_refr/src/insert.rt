@@ -4,8 +4,8 @@ ghost use Rattle.lb_model.specs.Catalog.{table_named, rows_of, put_version, put_
 ghost use Rattle.lb_model.specs.Answer.{literal_value, given_rows as rows_of_source, insert_into};
 ghost use Rattle.lb_model.specs.NotYet.{rows_given};
 
-use crate::find::{place_of_version, table_of};
 use crate::condition::{are_rows_insertable, enabled_names};
+use crate::find::{place_of_version, table_of};
 use crate::refused::unknown;
 use lb_base::{Listing, Name, NoMemory, Row, RowList, Str, Value};
 use lb_model::{Refusal, Reply, TableRec, TableVersion, Verb};
