@@ -180,8 +180,8 @@ pub executed_added : (J K : List Entry) (limit : ℕ) (session now : Session) (t
 executed_added J K limit session now text day a place e h = subst (λ (p : Option ℕ). ExecutedAt p J K limit session now text day a) (sym e) h
 
 -- a statement was prepared from the text and committed: that executes the text, on the day of the statement
-pub executed_by : (J K : List Entry) (limit : ℕ) (stored : Stored) (session now : Session) (text : List ℕ) (day : ℤ) (p : Prepared) (a : Answer) → IsReady J limit stored session day p → IsRepeatable text p.stmt → a.place ≡ Some (length J)
-    → ((t : List ℕ) → IsRepeatable t p.stmt → Added J K session now t p.said.day a) → Executed J K limit session now text day a
+pub executed_by : (J K : List Entry) (limit : ℕ) (stored : Stored) (session now : Session) (text : List ℕ) (day : ℤ) (p : Prepared) (a : Answer) → IsReady J limit stored session day p → IsReadable text p.stmt → a.place ≡ Some (length J)
+    → ((t : List ℕ) → IsReadable t p.stmt → Added J K session now t p.said.day a) → Executed J K limit session now text day a
 executed_by J K limit stored session now text day p a ready reads place added =
     let today : p.said.day ≡ day = ap (λ (d : Said). d.day) ready.said in
     executed_added J K limit session now text day a (length J) place (subst (λ (d : ℤ). Added J K session now text d a) today (added text reads))
