@@ -10,7 +10,7 @@ ghost use Rattle.lbac_canonical.specs.Lines.{IsPut, IsPutPart, IsPrinted, Printe
 ghost use Rattle.lbac_canonical.specs.Ending.{Ends};
 
 use crate::line::line_of;
-use lb_base::Listing;
+use lb_base::{Listing, NoMemory};
 use lb_split::{Piece, Span, Spans, resume, split, text_at};
 use lb_wire::{InputFault, MOST_INPUT_BYTES, Sink, Source, Status, put_all, read_all};
 use std::alloc::Global;
