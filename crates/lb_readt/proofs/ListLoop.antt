@@ -1,4 +1,4 @@
--- Repetition as a loop goes through it.
+-- What the loop that reads a list has read and has still to read, turn by turn; and a list behind its first item.
 use Rattle.std.proofs.Common.{true, false, ◌≡◌, ℕ, suc, ◌-◌, ◌+◌, ◌≤◌, ◌<◌, List, [], ◌∷◌, ◌++◌, length, refl, sym, ap, subst, ◌∙◌, append_assoc, arith}
 use Rattle.std.proofs.lemmas.List.{append-nil}
 use Rattle.lb_tok.specs.declared.kind.Kind.{Kind}
@@ -6,7 +6,7 @@ use Rattle.lb_tok.specs.declared.token.Token.{Token}
 use Rattle.lb_tok.specs.Kinds.{Kinds}
 use Rattle.lb_readt.specs.declared.fault.Fault.{Fault}
 use Rattle.lb_readt.specs.declared.fault.Fault.TheVariants.{Memory, Bad, Deep}
-use Rattle.lb_readt.specs.Readers.{bad, deep, Answer, got, stop, Reader, bind, give, heads, word, after, turns, many}
+use Rattle.lb_readt.specs.Readers.{bad, deep, Answer, got, stop, Reader, bind, give, heads, made, word, after, turns, many, commas, listed}
 use Rattle.lb_readt.specs.Answering.{Faults}
 
 -- what was read before, and what is still read
@@ -70,3 +70,15 @@ word_on k f ts more x rest e h = ap (λ (a : Answer (Unit {0})). bind a (λ b. f
 
 pub word_stop : {A : Type 0} (k : Kind) (f : Reader A) (e : Fault) (ts more : List Token) → word k ts ≡ got tt more → Faults e (f more) → Faults e (after k f ts)
 word_stop k f e ts more h p = subst (λ (a : Answer (Unit {0})). Faults e (bind a (λ b. f))) (sym h) p
+
+-- a first item, and further ones
+stops_too : {A B : Type 0} (e : Fault) (a : Answer A) (g : A → Reader B) → Faults e a → Faults e (bind a g)
+stops_too Memory a g h = tt
+stops_too (Bad rest) a g h = ap (λ (b : Answer _). bind b g) h
+stops_too (Deep rest) a g h = ap (λ (b : Answer _). bind b g) h
+
+pub listed_on : {A : Type 0} (f : Reader A) (ts more : List Token) (x : A) (xs : List A) (rest : List Token) → f ts ≡ got x more → commas f more ≡ got xs rest → listed f ts ≡ got (x ∷ xs) rest
+listed_on f ts more x xs rest e h = ap (λ (a : Answer _). bind a (λ y. made (λ ys. y ∷ ys) (commas f))) e ∙ ap (λ (a : Answer (List _)). bind a (λ ys. give (x ∷ ys))) h
+
+pub listed_stop : {A : Type 0} (f : Reader A) (e : Fault) (ts more : List Token) (x : A) → f ts ≡ got x more → Faults e (commas f more) → Faults e (listed f ts)
+listed_stop f e ts more x g h = subst (λ (a : Answer _). Faults e (bind a (λ y. made (λ ys. y ∷ ys) (commas f)))) (sym g) (stops_too e (commas f more) (λ ys. give (x ∷ ys)) h)
