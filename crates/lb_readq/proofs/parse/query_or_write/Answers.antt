@@ -8,7 +8,7 @@ use Rattle.lb_readq.specs.Judging.{Judged}
 use Rattle.lb_readq.proofs.Whole.{judges}
 use Rattle.lb_readq.proofs.Writes.{whole}
 use Rattle.lb_readq.proofs.Offsets.{left_over, if_read, if_cut, goes_wrong, goes_deep}
-use Rattle.lb_readq.proofs.parse.query.Goals as goal
+use Rattle.lb_readq.proofs.parse.query_or_write.Goals as goal
 
 judged : (ts : List Token) → Judged IsQueryOrWrite 64 ts (statement_at 64 ts)
 unfolding statement_at

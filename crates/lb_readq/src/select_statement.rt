@@ -1,12 +1,11 @@
-// Queries with their order and the number of their first rows.
+// A whole SELECT: the query, its order, and how many of its first rows are fetched.
 ghost use Rattle.std.specs.Prelude.{◌<◌, Some, None};
-ghost use Rattle.lb_readt.specs.Readers.{after, commas};
 ghost use Rattle.lb_readt.specs.Answering.{Gives};
 ghost use Rattle.lb_readq.specs.Queries.{direction_at, sort_key_at, order_at, row_count_at, fetch_at, may_fetch_at, select_at};
 
 use crate::clause::query;
 use lb_reade::{Brackets, expr};
-use lb_readt::{Read, count, next_is, take, with_first};
+use lb_readt::{Read, count, listed, next_is, take, take_if};
 use lb_tok::{Kind, Token};
 use lb_tree::{Direction, Select, SortKey};
 use sqlite_items::Items;
@@ -17,11 +16,9 @@ use std::alloc::Global;
 fn direction<'a>(tokens: &'a [Token]) -> Read<'a, Direction>
     ensures { Gives (λ r. (r.0, r.1.now)) result (direction_at tokens.now) }
 {
-    if next_is(tokens, Kind::Asc) {
-        let rest = take(tokens, Kind::Asc)?;
+    if let Some(rest) = take_if(tokens, Kind::Asc) {
         Ok((Direction::Ascending, rest))
-    } else if next_is(tokens, Kind::Desc) {
-        let rest = take(tokens, Kind::Desc)?;
+    } else if let Some(rest) = take_if(tokens, Kind::Desc) {
         Ok((Direction::Descending, rest))
     } else {
         Ok((Direction::Ascending, tokens))
@@ -30,11 +27,7 @@ fn direction<'a>(tokens: &'a [Token]) -> Read<'a, Direction>
 
 // expr [ASC | DESC]
 #[tactic(auto, unfolding(crate::specs::Queries::sort_key_at))]
-fn sort_key<'a, B: Brackets<'a>>(
-    alloc: Global,
-    tokens: &'a [Token],
-    brackets: &B,
-) -> Read<'a, SortKey>
+fn sort_key<'a, B: Brackets>(alloc: Global, tokens: &'a [Token], brackets: &B) -> Read<'a, SortKey>
     requires { B.ready brackets.now }
     ensures { Gives (λ r. (r.0, r.1.now)) result (sort_key_at (B.readers brackets.now) tokens.now) }
 {
@@ -43,33 +36,9 @@ fn sort_key<'a, B: Brackets<'a>>(
     Ok((SortKey { by, direction }, rest))
 }
 
-// {, key}
-fn sort_keys<'a, B: Brackets<'a>>(
-    alloc: Global,
-    tokens: &'a [Token],
-    brackets: &B,
-) -> Read<'a, Items<SortKey>>
-    requires { B.ready brackets.now }
-    ensures { Gives (λ r. (r.0, r.1.now)) result (commas (sort_key_at (B.readers brackets.now)) tokens.now) }
-{
-    let mut parts = Items::new(alloc);
-    let mut rest = tokens;
-    for _ in 0..tokens.len() {
-        if next_is(rest, Kind::Comma) {
-            let after = take(rest, Kind::Comma)?;
-            let (part, after) = sort_key(alloc, after, brackets)?;
-            parts.push(part)?;
-            rest = after;
-        } else {
-            return Ok((parts, rest));
-        }
-    }
-    Ok((parts, rest))
-}
-
 // [ORDER BY ..]
 #[tactic(auto, unfolding(crate::specs::Queries::order_at))]
-fn order<'a, B: Brackets<'a>>(
+fn order<'a, B: Brackets>(
     alloc: Global,
     tokens: &'a [Token],
     brackets: &B,
@@ -77,12 +46,9 @@ fn order<'a, B: Brackets<'a>>(
     requires { B.ready brackets.now }
     ensures { Gives (λ r. (r.0, r.1.now)) result (order_at (B.readers brackets.now) tokens.now) }
 {
-    if next_is(tokens, Kind::Order) {
-        let rest = take(tokens, Kind::Order)?;
+    if let Some(rest) = take_if(tokens, Kind::Order) {
         let rest = take(rest, Kind::By)?;
-        let (first, rest) = sort_key(alloc, rest, brackets)?;
-        let (more, rest) = sort_keys(alloc, rest, brackets)?;
-        Ok((with_first(alloc, first, more)?, rest))
+        listed(alloc, rest, |rest| sort_key(alloc, rest, brackets))
     } else {
         Ok((Items::new(alloc), tokens))
     }
@@ -108,8 +74,7 @@ fn fetched<'a>(tokens: &'a [Token]) -> Read<'a, i64>
     let rest = take(tokens, Kind::Fetch)?;
     let rest = take(rest, Kind::First)?;
     let (row_count, rest) = row_count(rest)?;
-    if next_is(rest, Kind::Row) {
-        let rest = take(rest, Kind::Row)?;
+    if let Some(rest) = take_if(rest, Kind::Row) {
         let rest = take(rest, Kind::Only)?;
         Ok((row_count, rest))
     } else {
@@ -134,11 +99,7 @@ fn fetch<'a>(tokens: &'a [Token]) -> Read<'a, Option<i64>>
 
 /// Reads a query with its order and the number of rows to fetch, `query [order] [fetch]`.
 #[tactic(auto, unfolding(crate::specs::Queries::select_at))]
-pub fn select<'a, B: Brackets<'a>>(
-    alloc: Global,
-    tokens: &'a [Token],
-    brackets: &B,
-) -> Read<'a, Select>
+pub fn select<'a, B: Brackets>(alloc: Global, tokens: &'a [Token], brackets: &B) -> Read<'a, Select>
     requires { B.ready brackets.now }
     ensures { Gives (λ r. (r.0, r.1.now)) result (select_at (B.readers brackets.now) tokens.now) }
 {
