@@ -8,7 +8,7 @@ ghost use Rattle.lb_tok.specs.Spelled.{IsSpoken};
 ghost use Rattle.lb_tok.specs.Syntax.{Reads, GoesWrong, IsBeyond};
 
 /// No list of tokens spells two statements.
-pub fn no_tokens_have_two_trees()
+pub fn no_tokens_spell_two_statements()
     ensures { (tokens : List Token) (some other : Stmt) → IsStatement tokens some → IsStatement tokens other → some ≡ other }
 {}
 
@@ -36,6 +36,8 @@ pub fn canonical_texts_tell_statements_apart()
 pub fn a_canonical_text_is_read_again()
     // What is read is the statement, and then its canonical text keeps both limits.
     ensures keeps { (s t : Stmt) → IsSpoken s → Reads (canonical s) t → (t ≡ s) × (IsBeyond s → ⊥) }
+    // Within both limits, the canonical text is read as the statement, if it is UTF-8.
+    ensures within { (s : Stmt) → IsSpoken s → IsUtf8 (canonical s) → (IsBeyond s → ⊥) → Reads (canonical s) s }
     // Where the canonical text goes wrong, it goes beyond a limit.
     ensures beyond { (s : Stmt) (at : ℕ) → IsSpoken s → IsUtf8 (canonical s) → GoesWrong (canonical s) at → IsBeyond s }
 {}

@@ -2,12 +2,12 @@
 ghost use Rattle.std.specs.Prelude.{◌≡◌, length, IfOk, IfErr};
 ghost use Rattle.lb_tok.specs.Changes.{IsStmt};
 ghost use Rattle.lb_tok.specs.Refusals.{IsRead, FaultSays};
-ghost use Rattle.lb_tok.specs.Syntax.{Reads, FailsSo};
+ghost use Rattle.lb_tok.specs.Syntax.{most_brackets, Reads, FailsSo};
 ghost use Rattle.lb_readt.specs.Readers.{heads};
 ghost use Rattle.lb_readd.specs.Choosing.{definers};
 
 use lb_readd::definition;
-use lb_readq::query;
+use lb_readq::query_or_write;
 use lb_readt::next_is;
 use lb_stmt::Stmt;
 use lb_tok::{Kind, ReadFault, Token, Tokens, tokens};
@@ -31,13 +31,13 @@ pub fn read(alloc: Global, text: &[u8]) -> Result<Stmt, ReadFault>
 // The statement that the tokens spell: the first of them tells which kind it is.
 fn statement(alloc: Global, found: &Tokens) -> Result<Stmt, ReadFault>
     requires { length found.now.spans ≡ length found.now.tokens }
-    ensures read { IfOk result (λ s. IsRead IsStmt 64 found.now s) }
-    ensures refused { IfErr result (λ e. FaultSays IsStmt 64 found.now e) }
+    ensures read { IfOk result (λ s. IsRead IsStmt most_brackets found.now s) }
+    ensures refused { IfErr result (λ e. FaultSays IsStmt most_brackets found.now e) }
 {
     if begins_definition(found.tokens.as_slice()) {
         definition(alloc, found)
     } else {
-        query(alloc, found)
+        query_or_write(alloc, found)
     }
 }
 

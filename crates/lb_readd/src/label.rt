@@ -1,33 +1,19 @@
 // Components, policies and labels.
-ghost use Rattle.std.specs.Prelude.{◌≡◌, ◌∷◌, [], ◌++◌};
-ghost use Rattle.lb_tok.specs.declared.kind.Kind.TheVariants as kinds;
-ghost use Rattle.lb_readt.specs.Readers.{commas, listed};
+ghost use Rattle.std.specs.Prelude.{◌≡◌, ◌++◌};
 ghost use Rattle.lb_readt.specs.Answering.{Gives};
-ghost use Rattle.lb_readt.specs.Tokens.{name_at};
 ghost use Rattle.lb_readq.specs.Queries.{readers};
-ghost use Rattle.lb_readd.specs.Defining.{texts_at, tree_element_at, tree_at, component_at, create_component_at, new_label_on, create_label_on, create_label_at, which_option_at, write_option_at, create_policy_at, dropped_label_on, drop_label_on, drop_label_at};
+ghost use Rattle.lb_readd.specs.Defining.{tree_element_at, tree_at, component_at, create_component_at, new_label_on, create_label_on, create_label_at, which_option_at, write_option_at, create_policy_at, dropped_label_on, drop_label_on, drop_label_at};
 
 use crate::parts::label_parts;
-use lb_base::{Name, Str};
+use lb_base::Name;
 use lb_readg::{label_behind, means, name_or};
 use lb_readq::open;
 use lb_readt::{
-    Read, name, names, next_is, next_is_either, next_is_name, take, text, texts, with_first,
+    Read, further, name, names, next_is, next_is_either, next_is_name, take, take_if, text, texts,
 };
 use lb_stmt::{Change, ComponentDef, PolicyDef, TreeElement, WriteOption};
 use lb_tok::{Kind, Token};
-use sqlite_items::Items;
 use std::alloc::Global;
-
-// text {, text}
-#[tactic(auto, unfolding(crate::specs::Defining::texts_at))]
-fn all_texts<'a>(alloc: Global, tokens: &'a [Token]) -> Read<'a, Items<Str>>
-    ensures { Gives (λ r. (r.0, r.1.now)) result (texts_at tokens.now) }
-{
-    let (first, rest) = text(tokens)?;
-    let (more, rest) = texts(alloc, rest)?;
-    Ok((with_first(alloc, first, more)?, rest))
-}
 
 // text UNDER text
 #[tactic(auto, unfolding(crate::specs::Defining::tree_element_at))]
@@ -40,51 +26,30 @@ fn tree_element<'a>(tokens: &'a [Token]) -> Read<'a, TreeElement>
     Ok((TreeElement { name, parent }, rest))
 }
 
-// {, text UNDER text}
-fn tree_elements<'a>(alloc: Global, tokens: &'a [Token]) -> Read<'a, Items<TreeElement>>
-    ensures { Gives (λ r. (r.0, r.1.now)) result (commas tree_element_at tokens.now) }
-{
-    let mut parts = Items::new(alloc);
-    let mut rest = tokens;
-    for _ in 0..tokens.len() {
-        if next_is(rest, Kind::Comma) {
-            let after = take(rest, Kind::Comma)?;
-            let (part, after) = tree_element(after)?;
-            parts.push(part)?;
-            rest = after;
-        } else {
-            return Ok((parts, rest));
-        }
-    }
-    Ok((parts, rest))
-}
-
 // text ROOT {, text UNDER text}
-#[tactic(auto, unfolding(crate::specs::Defining::tree_at))]
+#[tactic(auto, unfolding(crate::specs::Defining::tree_at, lb_readt::specs::Readers::commas))]
 fn tree<'a>(alloc: Global, tokens: &'a [Token]) -> Read<'a, ComponentDef>
     ensures { Gives (λ r. (r.0, r.1.now)) result (tree_at tokens.now) }
 {
     let (root, rest) = text(tokens)?;
     let rest = take(rest, Kind::Root)?;
-    let (others, rest) = tree_elements(alloc, rest)?;
+    let (others, rest) = further(alloc, rest, Kind::Comma, |rest| tree_element(rest))?;
     Ok((ComponentDef::Tree(root, others), rest))
 }
 
 // comp = SET "{" .. "}" | ARRAY "[" .. "]" | TREE "(" .. ")"
-#[tactic(auto, unfolding(crate::specs::Defining::component_at))]
+#[tactic(auto, unfolding(crate::specs::Defining::component_at, crate::specs::Defining::texts_at))]
 fn component<'a>(alloc: Global, tokens: &'a [Token], depth: u32) -> Read<'a, ComponentDef>
     ensures { Gives (λ r. (r.0, r.1.now)) result (component_at (readers depth) tokens.now) }
 {
-    if next_is(tokens, Kind::Set) {
-        let rest = take(tokens, Kind::Set)?;
+    if let Some(rest) = take_if(tokens, Kind::Set) {
         let rest = take(rest, Kind::LeftBrace)?;
-        let (elements, rest) = all_texts(alloc, rest)?;
+        let (elements, rest) = texts(alloc, rest)?;
         let rest = take(rest, Kind::RightBrace)?;
         Ok((ComponentDef::Set(elements), rest))
-    } else if next_is(tokens, Kind::Array) {
-        let rest = take(tokens, Kind::Array)?;
+    } else if let Some(rest) = take_if(tokens, Kind::Array) {
         let rest = take(rest, Kind::LeftBracket)?;
-        let (elements, rest) = all_texts(alloc, rest)?;
+        let (elements, rest) = texts(alloc, rest)?;
         let rest = take(rest, Kind::RightBracket)?;
         Ok((ComponentDef::Array(elements), rest))
     } else {
@@ -166,12 +131,10 @@ pub fn create_policy<'a>(alloc: Global, tokens: &'a [Token]) -> Read<'a, Change>
     let rest = take(tokens, Kind::Policy)?;
     let (policy, rest) = name(rest)?;
     let rest = take(rest, Kind::Components)?;
-    let (first, rest) = name(rest)?;
-    let (more, rest) = names(alloc, rest)?;
+    let (components, rest) = names(alloc, rest)?;
     let rest = take(rest, Kind::With)?;
     let rest = take(rest, Kind::Db2LbacRules)?;
     let (option, rest) = write_option(rest)?;
-    let components = with_first(alloc, first, more)?;
     Ok((
         Change::CreatePolicy(PolicyDef {
             name: policy,

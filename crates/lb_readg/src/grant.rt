@@ -1,14 +1,14 @@
 // GRANT and REVOKE.
-ghost use Rattle.std.specs.Prelude.{◌≡◌, ◌∷◌, [], ◌++◌};
+ghost use Rattle.std.specs.Prelude.{◌≡◌, ◌++◌};
 ghost use Rattle.lb_tok.specs.declared.kind.Kind.TheVariants as kinds;
-ghost use Rattle.lb_readt.specs.Readers.{after, commas, listed};
+ghost use Rattle.lb_readt.specs.Readers.{after};
 ghost use Rattle.lb_readt.specs.Answering.{Gives};
 ghost use Rattle.lb_readg.specs.Granting.{which_access_at, access_at, down_or_up_at, rule_at, rule_of_at, right_at, rights_at, granted_on, third_on, second_to_on, second_on, first_on, grant_rights_at, revoked_on, revoked_table_on, revoke_rights_at, grant_label_at, grant_exemption_at, grant_role_at, grant_secadm_at, grant_at, revoke_label_at, revoke_exemption_at, revoke_role_at, revoke_secadm_at, revoke_at};
 
 use crate::user::{grantee, label_name, spelt_grantee, user};
 use crate::word::{means, name_or, named, next_is_grantee};
 use lb_base::{Name, Rule};
-use lb_readt::{Read, name, next_is, next_is_either, next_is_name, take, with_first};
+use lb_readt::{Read, listed, name, next_is, next_is_either, next_is_name, take, take_if};
 use lb_stmt::{Access, Change, Exempted, Grantee, Privilege};
 use lb_tok::{Kind, Token};
 use sqlite_items::Items;
@@ -33,8 +33,7 @@ fn which_access<'a>(tokens: &'a [Token]) -> Read<'a, Access>
 fn access<'a>(tokens: &'a [Token]) -> Read<'a, Access>
     ensures { Gives (λ r. (r.0, r.1.now)) result (access_at tokens.now) }
 {
-    if next_is(tokens, Kind::For) {
-        let rest = take(tokens, Kind::For)?;
+    if let Some(rest) = take_if(tokens, Kind::For) {
         let (access, rest) = which_access(rest)?;
         means(rest, Kind::Access, access)
     } else {
@@ -73,8 +72,7 @@ fn rule<'a>(tokens: &'a [Token]) -> Read<'a, Exempted>
             Kind::Db2LbacReadTree,
             Exempted::Rule(Rule::ReadTree),
         )
-    } else if next_is(tokens, Kind::Db2LbacWriteArray) {
-        let rest = take(tokens, Kind::Db2LbacWriteArray)?;
+    } else if let Some(rest) = take_if(tokens, Kind::Db2LbacWriteArray) {
         down_or_up(rest)
     } else if next_is(tokens, Kind::Db2LbacWriteSet) {
         means(
@@ -122,33 +120,12 @@ fn right<'a>(tokens: &'a [Token]) -> Read<'a, Privilege>
     }
 }
 
-// {, priv}
-fn more_rights<'a>(alloc: Global, tokens: &'a [Token]) -> Read<'a, Items<Privilege>>
-    ensures { Gives (λ r. (r.0, r.1.now)) result (commas right_at tokens.now) }
-{
-    let mut parts = Items::new(alloc);
-    let mut rest = tokens;
-    for _ in 0..tokens.len() {
-        if next_is(rest, Kind::Comma) {
-            let after = take(rest, Kind::Comma)?;
-            let (part, after) = right(after)?;
-            parts.push(part)?;
-            rest = after;
-        } else {
-            return Ok((parts, rest));
-        }
-    }
-    Ok((parts, rest))
-}
-
 // priv {, priv}
 #[tactic(auto, unfolding(crate::specs::Granting::rights_at))]
 fn rights<'a>(alloc: Global, tokens: &'a [Token]) -> Read<'a, Items<Privilege>>
     ensures { Gives (λ r. (r.0, r.1.now)) result (rights_at tokens.now) }
 {
-    let (first, rest) = right(tokens)?;
-    let (more, rest) = more_rights(alloc, rest)?;
-    Ok((with_first(alloc, first, more)?, rest))
+    listed(alloc, tokens, |rest| right(rest))
 }
 
 // TO (u | PUBLIC), behind the table

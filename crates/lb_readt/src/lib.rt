@@ -12,9 +12,9 @@ mod next;
 mod qualified;
 
 pub use fault::{Fault, Read};
-pub use list::{flag, names, noise, texts, with_first};
+pub use list::{flag, further, listed, many, names, noise, texts, with_first};
 pub use next::{
     comparison, count, day, int, name, negative, next_is, next_is_comparison, next_is_either,
-    next_is_name, take, text, word,
+    next_is_name, take, take_if, text, word,
 };
 pub use qualified::{column, columns};

@@ -1,8 +1,9 @@
 // Readers of single tokens, and what the next token is.
-ghost use Rattle.std.specs.Prelude.{◌≡◌, ◌++◌, ◌<◌, ◌≤◌, ◌^◌, pos, neg_ℤ};
+ghost use Rattle.std.specs.Prelude.{◌≡◌, ◌++◌, ◌<◌, ◌≤◌, ◌^◌, pos, neg_ℤ, true, false};
+ghost use Rattle.std.specs.Option.{MatchOption};
 ghost use Rattle.lb_tok.specs.Kinds.{only, from_to, names};
 ghost use Rattle.lb_tok.specs.declared.kind.Kind.TheVariants as kinds;
-ghost use Rattle.lb_readt.specs.Readers.{heads, word};
+ghost use Rattle.lb_readt.specs.Readers.{heads, word, got};
 ghost use Rattle.lb_readt.specs.Answering.{Gives};
 ghost use Rattle.lb_readt.specs.Tokens.{name_at, text_at, int_at, negative_at, count_at, day_at, word_at, comparison_at};
 
@@ -68,6 +69,17 @@ pub fn take<'a>(tokens: &'a [Token], kind: Kind) -> Result<&'a [Token], Fault<'a
                 Err(Fault::Bad(tokens))
             }
         }
+    }
+}
+
+/// Takes a token of this kind if it is next: the tokens after it. `None` where the next token is of another kind, or none is
+/// left.
+pub fn take_if<'a>(tokens: &'a [Token], kind: Kind) -> Option<&'a [Token]>
+    ensures { MatchOption result (heads (only kind) tokens.now ≡ false) (λ rest. (heads (only kind) tokens.now ≡ true) × (word kind tokens.now ≡ got tt rest.now)) }
+{
+    match tokens {
+        [first, rest @ ..] if first.kind.is(kind) => Some(rest),
+        _ => None,
     }
 }
 
