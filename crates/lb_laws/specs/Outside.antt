@@ -5,7 +5,7 @@ use Rattle.lb_model.specs.declared.reply.Reply.{Reply}
 use Rattle.lb_model.specs.declared.reply.Reply.TheVariants as replies
 use Rattle.lb_model.specs.Sections.{SectionResult}
 
--- of an answer that is want of memory, whether it has a place; of any other, nothing
+-- of an answer that is out of memory, whether it has a place; of any other, nothing
 abbrev pub shortage_at : Option ℕ → Reply → Option Bool
 shortage_at place replies.NoMemory = Some (is_some place)
 shortage_at place _ = None

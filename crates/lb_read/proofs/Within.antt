@@ -10,10 +10,10 @@ use Rattle.lb_tok.specs.Changes.{IsDefinition, IsStatement}
 use Rattle.lb_tok.specs.Form.{Lang}
 use Rattle.lb_tok.specs.Grammar.{IsQueryOrWrite}
 use Rattle.lb_tok.specs.Kinds.{Kinds}
-use Rattle.lb_tok.specs.Limit.{walk}
+use Rattle.lb_tok.specs.Limit.{most_statement_bytes, most_brackets, walk}
 use Rattle.lb_tok.specs.Refusals.{Spells}
 use Rattle.lb_tok.specs.Spelled.{IsSpoken}
-use Rattle.lb_tok.specs.Syntax.{most_bytes, most_brackets, Reads, IsBeyond}
+use Rattle.lb_tok.specs.Syntax.{IsTextOf, IsBeyond}
 use Rattle.lb_tok.proofs.Spoken.{canonical_lexes, canonical_is_spelled}
 use Rattle.lb_readt.specs.Readers.{Answer, Reader}
 use Rattle.lb_readq.specs.Judging.{Judged}
@@ -32,10 +32,10 @@ all_balanced d e ts s p h = go ((are_all ts s).0 p)
     go (inl a) = balanced writes.whole d e ts s a h
     go (inr a) = balanced defined.whole d e ts s a h
 
-short_enough : (n : ℕ) → (most_bytes < n → ⊥) → n ≤ most_bytes
-short_enough n h = go (cases_lt most_bytes n)
+short_enough : (n : ℕ) → (most_statement_bytes < n → ⊥) → n ≤ most_statement_bytes
+short_enough n h = go (cases_lt most_statement_bytes n)
   where
-    go : (most_bytes < n) ⊎ (n ≤ most_bytes) → n ≤ most_bytes
+    go : (most_statement_bytes < n) ⊎ (n ≤ most_statement_bytes) → n ≤ most_statement_bytes
     go (inl l) = absurd (h l)
     go (inr m) = m
 
@@ -43,7 +43,7 @@ closed : (s : Stmt) → IsSpoken s → (IsBeyond s → ⊥) → (o : Option ℕ)
 closed s h k None e = absurd (k (inr e))
 closed s h k (Some d) e = all_balanced most_brackets d (tokens_of s) s (canonical_is_spelled s h) e
 
-pub within : (s : Stmt) → IsSpoken s → IsUtf8 (canonical s) → (IsBeyond s → ⊥) → Reads (canonical s) s
+pub within : (s : Stmt) → IsSpoken s → IsUtf8 (canonical s) → (IsBeyond s → ⊥) → IsTextOf (canonical s) s
 within s h u k =
     let p = canonical_lexes s h in
     record {

@@ -1,7 +1,7 @@
-// Whole definitions.
+// Reads a whole definition: the first words choose the reader of its kind.
 ghost use Rattle.std.specs.Prelude.{◌≡◌, []};
 ghost use Rattle.lb_readt.specs.Answering.{Gives};
-ghost use Rattle.lb_tok.specs.Syntax.{most_brackets};
+ghost use Rattle.lb_tok.specs.Limit.{most_brackets};
 ghost use Rattle.lb_stmt.specs.declared.change.Change.TheVariants as changes;
 ghost use Rattle.lb_tok.specs.declared.kind.Kind.TheVariants as kinds;
 ghost use Rattle.lb_readt.specs.Readers.{seq, after, made};
@@ -51,7 +51,7 @@ fn create_control<'a>(alloc: Global, tokens: &'a [Token], depth: u32) -> Read<'a
     control(alloc, replace, rest, depth)
 }
 
-// What stands behind CREATE.
+// What stands after CREATE.
 #[tactic(auto, unfolding(crate::specs::Defining::create_at))]
 fn created<'a>(alloc: Global, tokens: &'a [Token], depth: u32) -> Read<'a, Change>
     ensures { Gives (λ r. (r.0, r.1.now)) result (create_at depth tokens.now) }
@@ -89,7 +89,7 @@ fn switched_mask<'a>(tokens: &'a [Token]) -> Read<'a, Change>
     Ok((Change::SwitchMask(mask, switch), rest))
 }
 
-// What stands behind ALTER.
+// What stands after ALTER.
 #[tactic(auto, unfolding(crate::specs::Defining::alter_at))]
 fn altered<'a>(tokens: &'a [Token], depth: u32) -> Read<'a, Change>
     ensures { Gives (λ r. (r.0, r.1.now)) result (alter_at (readers depth) tokens.now) }
@@ -154,7 +154,7 @@ fn drop_role<'a>(tokens: &'a [Token]) -> Read<'a, Change>
     Ok((Change::DropRole(role), rest))
 }
 
-// What stands behind DROP.
+// What stands after DROP.
 #[tactic(auto, unfolding(crate::specs::Defining::drop_at))]
 fn dropped<'a>(tokens: &'a [Token]) -> Read<'a, Change>
     ensures { Gives (λ r. (r.0, r.1.now)) result (drop_at tokens.now) }
@@ -230,7 +230,7 @@ fn change<'a>(alloc: Global, tokens: &'a [Token], depth: u32) -> Read<'a, Change
     }
 }
 
-/// A definition, and nothing behind it.
+/// A definition, and nothing after it.
 #[tactic(auto, unfolding(crate::specs::Defining::definition_at, crate::specs::Defining::whole_at))]
 pub fn whole<'a>(alloc: Global, tokens: &'a [Token]) -> Result<Stmt, Fault<'a>>
     ensures { Gives (λ s. (s, [])) result (whole_at most_brackets tokens.now) }

@@ -1,4 +1,4 @@
-// Permissions and masks.
+// Reads the statements on row permissions and column masks.
 ghost use Rattle.std.specs.Prelude.{◌≡◌};
 ghost use Rattle.lb_readt.specs.Answering.{Gives};
 ghost use Rattle.lb_readq.specs.Queries.{readers};
@@ -129,7 +129,7 @@ fn mask<'a>(alloc: Global, replace: bool, tokens: &'a [Token], depth: u32) -> Re
     ))
 }
 
-/// PERMISSION .. | MASK .., behind CREATE [OR REPLACE]
+/// PERMISSION .. | MASK .., after CREATE [OR REPLACE]
 #[tactic(auto, unfolding(crate::specs::Defining::control_at))]
 pub fn control<'a>(
     alloc: Global,

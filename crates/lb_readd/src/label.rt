@@ -1,4 +1,4 @@
-// Components, policies and labels.
+// Reads the statements on components, policies and labels.
 ghost use Rattle.std.specs.Prelude.{◌≡◌, ◌++◌};
 ghost use Rattle.lb_readt.specs.Answering.{Gives};
 ghost use Rattle.lb_readq.specs.Queries.{readers};
@@ -71,7 +71,7 @@ fn create_component<'a>(alloc: Global, tokens: &'a [Token], depth: u32) -> Read<
     Ok((Change::CreateComponent(name, component), rest))
 }
 
-// . name part {, part}, behind the policy
+// . name part {, part}, after the policy
 #[tactic(auto, unfolding(crate::specs::Defining::new_label_on))]
 fn new_label<'a>(alloc: Global, policy: Name, tokens: &'a [Token]) -> Read<'a, Change>
     ensures { Gives (λ r. (r.0, r.1.now)) result (new_label_on policy tokens.now) }
@@ -81,7 +81,7 @@ fn new_label<'a>(alloc: Global, policy: Name, tokens: &'a [Token]) -> Read<'a, C
     Ok((Change::CreateLabel(label, parts), rest))
 }
 
-/// COMPONENT name comp | name . name part {, part}, behind CREATE SECURITY LABEL
+/// COMPONENT name comp | name . name part {, part}, after CREATE SECURITY LABEL
 #[tactic(auto, unfolding(crate::specs::Defining::create_label_at, crate::specs::Defining::create_label_on))]
 pub fn create_label<'a>(alloc: Global, tokens: &'a [Token], depth: u32) -> Read<'a, Change>
     ensures { Gives (λ r. (r.0, r.1.now)) result (create_label_at (readers depth) tokens.now) }
@@ -123,7 +123,7 @@ fn write_option<'a>(tokens: &'a [Token]) -> Read<'a, WriteOption>
     }
 }
 
-/// POLICY name COMPONENTS name {, name} WITH DB2LBACRULES .., behind CREATE SECURITY
+/// POLICY name COMPONENTS name {, name} WITH DB2LBACRULES .., after CREATE SECURITY
 #[tactic(auto, unfolding(crate::specs::Defining::create_policy_at))]
 pub fn create_policy<'a>(alloc: Global, tokens: &'a [Token]) -> Read<'a, Change>
     ensures { Gives (λ r. (r.0, r.1.now)) result (create_policy_at tokens.now) }
@@ -145,7 +145,7 @@ pub fn create_policy<'a>(alloc: Global, tokens: &'a [Token]) -> Read<'a, Change>
     ))
 }
 
-// . name, behind the policy
+// . name, after the policy
 #[tactic(auto, unfolding(crate::specs::Defining::dropped_label_on))]
 fn dropped_label<'a>(policy: Name, tokens: &'a [Token]) -> Read<'a, Change>
     ensures { Gives (λ r. (r.0, r.1.now)) result (dropped_label_on policy tokens.now) }
@@ -154,7 +154,7 @@ fn dropped_label<'a>(policy: Name, tokens: &'a [Token]) -> Read<'a, Change>
     Ok((Change::DropLabel(label), rest))
 }
 
-/// COMPONENT name | name . name, behind DROP SECURITY LABEL
+/// COMPONENT name | name . name, after DROP SECURITY LABEL
 #[tactic(auto, unfolding(crate::specs::Defining::drop_label_at, crate::specs::Defining::drop_label_on))]
 pub fn drop_label<'a>(tokens: &'a [Token]) -> Read<'a, Change>
     ensures { Gives (λ r. (r.0, r.1.now)) result (drop_label_at tokens.now) }

@@ -1,4 +1,4 @@
-// CREATE TABLE.
+// Reads CREATE TABLE: columns, their options in any order, and PRIMARY KEY elements.
 ghost use Rattle.std.specs.Prelude.{◌≡◌, ◌<◌, ◌∷◌, [], ◌++◌, ◌||◌, not, Some, None};
 ghost use Rattle.lb_tok.specs.Kinds.{only};
 ghost use Rattle.lb_tok.specs.declared.kind.Kind.TheVariants as kinds;
@@ -124,7 +124,7 @@ fn secured<'a>(tokens: &'a [Token]) -> Read<'a, Name>
     name(rest)
 }
 
-// A column behind its name.
+// A column after its name.
 #[tactic(auto, unfolding(crate::specs::Defining::column_on))]
 fn column<'a>(column: Name, tokens: &'a [Token], depth: u32) -> Read<'a, Element>
     ensures { Gives (λ r. (r.0, r.1.now)) result (column_on (readers depth) column tokens.now) }

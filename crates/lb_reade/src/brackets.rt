@@ -22,7 +22,7 @@ pub trait Brackets {
     fn open<'a>(&self, tokens: &'a [Token], kind: Kind) -> Result<&'a [Token], Fault<'a>>
         ensures { Gives (λ r. (tt, r.now)) result (open_at (readers self.now).room kind tokens.now) };
 
-    /// Reads what stands behind an opener that was taken, as the kind of content that is wanted.
+    /// Reads what stands after an opener that was taken, as the kind of content that is wanted.
     fn inside<'a>(&self, alloc: Global, tokens: &'a [Token], wanted: Wanted) -> Read<'a, Inside>
         requires { ready self.now }
         ensures { Gives (λ r. (inner_of r.0, r.1.now)) result (within (readers self.now) wanted tokens.now) };

@@ -95,7 +95,7 @@ fn side<'a, B: Brackets>(alloc: Global, tokens: &'a [Token], brackets: &B) -> Re
     }
 }
 
-// "(" query ")" | expr, behind a comparison sign
+// "(" query ")" | expr, after a comparison sign
 #[tactic(auto, unfolding(crate::specs::Expressions::compared_at))]
 fn compared<'a, B: Brackets>(
     alloc: Global,
@@ -205,11 +205,7 @@ fn exists<'a, B: Brackets>(alloc: Global, tokens: &'a [Token], brackets: &B) -> 
 }
 
 // A parenthesis at the head of a condition, with a condition or an expression in it.
-fn in_brackets<'a, B: Brackets>(
-    alloc: Global,
-    tokens: &'a [Token],
-    brackets: &B,
-) -> Read<'a, Mixed>
+fn in_brackets<'a, B: Brackets>(alloc: Global, tokens: &'a [Token], brackets: &B) -> Read<'a, Mixed>
     requires { B.ready brackets.now }
     ensures { Gives (λ r. (mixed_of r.0, r.1.now)) result (parens (B.readers brackets.now) (B.readers brackets.now).mixed tokens.now) }
 {
@@ -245,11 +241,7 @@ fn prim<'a, B: Brackets>(alloc: Global, tokens: &'a [Token], brackets: &B) -> Re
 
 // prim, or an expression with which one may begin
 #[tactic(auto, unfolding(crate::specs::Expressions::may_prim, crate::specs::Expressions::prim_with))]
-fn may_prim<'a, B: Brackets>(
-    alloc: Global,
-    tokens: &'a [Token],
-    brackets: &B,
-) -> Read<'a, Mixed>
+fn may_prim<'a, B: Brackets>(alloc: Global, tokens: &'a [Token], brackets: &B) -> Read<'a, Mixed>
     requires { B.ready brackets.now }
     ensures { Gives (λ r. (mixed_of r.0, r.1.now)) result (may_prim (B.readers brackets.now) tokens.now) }
 {
@@ -301,18 +293,14 @@ fn may_neg<'a, B: Brackets>(alloc: Global, tokens: &'a [Token], brackets: &B) ->
 }
 
 // {AND neg}
-fn negs<'a, B: Brackets>(
-    alloc: Global,
-    tokens: &'a [Token],
-    brackets: &B,
-) -> Read<'a, Items<Cond>>
+fn negs<'a, B: Brackets>(alloc: Global, tokens: &'a [Token], brackets: &B) -> Read<'a, Items<Cond>>
     requires { B.ready brackets.now }
     ensures { Gives (λ r. (r.0, r.1.now)) result (many (only kinds.And) (after kinds.And (neg_at (B.readers brackets.now))) tokens.now) }
 {
     further(alloc, tokens, Kind::And, |rest| neg(alloc, rest, brackets))
 }
 
-// The rest of conj behind its first part, which alone makes no list.
+// The rest of conj after its first part, which alone makes no list.
 #[tactic(auto, unfolding(crate::specs::Expressions::and_on))]
 fn and_on<'a, B: Brackets>(
     alloc: Global,
@@ -342,18 +330,14 @@ fn conj<'a, B: Brackets>(alloc: Global, tokens: &'a [Token], brackets: &B) -> Re
 }
 
 // {OR conj}
-fn conjs<'a, B: Brackets>(
-    alloc: Global,
-    tokens: &'a [Token],
-    brackets: &B,
-) -> Read<'a, Items<Cond>>
+fn conjs<'a, B: Brackets>(alloc: Global, tokens: &'a [Token], brackets: &B) -> Read<'a, Items<Cond>>
     requires { B.ready brackets.now }
     ensures { Gives (λ r. (r.0, r.1.now)) result (many (only kinds.Or) (after kinds.Or (conj_at (B.readers brackets.now))) tokens.now) }
 {
     further(alloc, tokens, Kind::Or, |rest| conj(alloc, rest, brackets))
 }
 
-// The rest of cond behind its first part, which alone makes no list.
+// The rest of cond after its first part, which alone makes no list.
 #[tactic(auto, unfolding(crate::specs::Expressions::or_on))]
 fn or_on<'a, B: Brackets>(
     alloc: Global,
@@ -385,11 +369,7 @@ pub fn cond<'a, B: Brackets>(alloc: Global, tokens: &'a [Token], brackets: &B) -
 /// Reads what stands in a parenthesis at the head of a condition: a condition, or an expression with which one may begin.
 /// Both are read in one pass, so that an error stands where neither goes on.
 #[tactic(auto, unfolding(crate::specs::Expressions::mixed_at))]
-pub fn mixed<'a, B: Brackets>(
-    alloc: Global,
-    tokens: &'a [Token],
-    brackets: &B,
-) -> Read<'a, Mixed>
+pub fn mixed<'a, B: Brackets>(alloc: Global, tokens: &'a [Token], brackets: &B) -> Read<'a, Mixed>
     requires { B.ready brackets.now }
     ensures { Gives (λ r. (mixed_of r.0, r.1.now)) result (mixed_at (B.readers brackets.now) tokens.now) }
 {

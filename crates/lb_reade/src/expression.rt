@@ -45,11 +45,7 @@ fn arm<'a, B: Brackets>(alloc: Global, tokens: &'a [Token], brackets: &B) -> Rea
 }
 
 // {WHEN cond THEN expr}
-fn arms<'a, B: Brackets>(
-    alloc: Global,
-    tokens: &'a [Token],
-    brackets: &B,
-) -> Read<'a, Items<Arm>>
+fn arms<'a, B: Brackets>(alloc: Global, tokens: &'a [Token], brackets: &B) -> Read<'a, Items<Arm>>
     requires { B.ready brackets.now }
     ensures { Gives (λ r. (r.0, r.1.now)) result (many (only kinds.When) (arm_at (B.readers brackets.now)) tokens.now) }
 {
@@ -334,11 +330,7 @@ fn named<'a, B: Brackets>(alloc: Global, tokens: &'a [Token], brackets: &B) -> R
 /// Reads a factor that begins with neither a name nor a parenthesis: NULL, an integer, a text, the current date, SESSION_USER
 /// or a CASE expression.
 #[tactic(auto, unfolding(crate::specs::Expressions::literal_at))]
-pub fn literal<'a, B: Brackets>(
-    alloc: Global,
-    tokens: &'a [Token],
-    brackets: &B,
-) -> Read<'a, Expr>
+pub fn literal<'a, B: Brackets>(alloc: Global, tokens: &'a [Token], brackets: &B) -> Read<'a, Expr>
     requires { B.ready brackets.now }
     ensures { Gives (λ r. (r.0, r.1.now)) result (literal_at (B.readers brackets.now) tokens.now) }
 {
@@ -360,11 +352,7 @@ pub fn literal<'a, B: Brackets>(
 
 /// Reads a factor that begins with no parenthesis: a column, a call or a literal.
 #[tactic(auto, unfolding(crate::specs::Expressions::plain_at))]
-pub fn plain<'a, B: Brackets>(
-    alloc: Global,
-    tokens: &'a [Token],
-    brackets: &B,
-) -> Read<'a, Expr>
+pub fn plain<'a, B: Brackets>(alloc: Global, tokens: &'a [Token], brackets: &B) -> Read<'a, Expr>
     requires { B.ready brackets.now }
     ensures { Gives (λ r. (r.0, r.1.now)) result (plain_at (B.readers brackets.now) tokens.now) }
 {
@@ -412,10 +400,15 @@ fn factors<'a, B: Brackets>(
     requires { B.ready brackets.now }
     ensures { Gives (λ r. (r.0, r.1.now)) result (many (only kinds.Star) (after kinds.Star (fact_at (B.readers brackets.now))) tokens.now) }
 {
-    further(alloc, tokens, Kind::Star, |rest| fact(alloc, rest, brackets))
+    further(
+        alloc,
+        tokens,
+        Kind::Star,
+        |rest| fact(alloc, rest, brackets),
+    )
 }
 
-// The rest of term behind its first part, which alone makes no list.
+// The rest of term after its first part, which alone makes no list.
 #[tactic(auto, unfolding(crate::specs::Expressions::product_on))]
 fn product_on<'a, B: Brackets>(
     alloc: Global,
@@ -453,10 +446,15 @@ fn pieces<'a, B: Brackets>(
     requires { B.ready brackets.now }
     ensures { Gives (λ r. (r.0, r.1.now)) result (many (only kinds.Bars) (after kinds.Bars (term_at (B.readers brackets.now))) tokens.now) }
 {
-    further(alloc, tokens, Kind::Bars, |rest| term(alloc, rest, brackets))
+    further(
+        alloc,
+        tokens,
+        Kind::Bars,
+        |rest| term(alloc, rest, brackets),
+    )
 }
 
-// The rest of cat behind its first part, which alone makes no list.
+// The rest of cat after its first part, which alone makes no list.
 #[tactic(auto, unfolding(crate::specs::Expressions::concat_on))]
 fn concat_on<'a, B: Brackets>(
     alloc: Global,
@@ -513,7 +511,7 @@ fn summands<'a, B: Brackets>(
     )
 }
 
-// The rest of expr behind its first part, which alone makes no list.
+// The rest of expr after its first part, which alone makes no list.
 #[tactic(auto, unfolding(crate::specs::Expressions::sum_on))]
 fn sum_on<'a, B: Brackets>(
     alloc: Global,
@@ -546,7 +544,7 @@ pub fn expr<'a, B: Brackets>(alloc: Global, tokens: &'a [Token], brackets: &B) -
     sum_on(alloc, rest, brackets, first)
 }
 
-/// Reads the rest of an expression behind its first factor, which is given.
+/// Reads the rest of an expression after its first factor, which is given.
 #[tactic(auto, unfolding(crate::specs::Expressions::rest_at))]
 pub fn rest_on<'a, B: Brackets>(
     alloc: Global,

@@ -1,4 +1,4 @@
-// Queries, clause by clause.
+// Reads a query, clause by clause.
 ghost use Rattle.std.specs.Prelude.{◌<◌, Some, None};
 ghost use Rattle.lb_readt.specs.Readers.{flag};
 ghost use Rattle.lb_readt.specs.Answering.{Gives};

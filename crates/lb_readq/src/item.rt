@@ -1,4 +1,4 @@
-// The outputs of a query.
+// Reads the items of a select list: `*`, `name.*`, expressions with their output names.
 ghost use Rattle.std.specs.Prelude.{◌<◌};
 ghost use Rattle.lb_readt.specs.Answering.{Gives};
 ghost use Rattle.lb_readq.specs.Queries.{value_on, starred_on, item_at, items_at};
@@ -13,7 +13,7 @@ use lb_tree::{Expr, Item};
 use sqlite_items::Items;
 use std::alloc::Global;
 
-// The rest of an item behind its first factor, with its name if it has one.
+// The rest of an item after its first factor, with its name if it has one.
 #[tactic(auto, unfolding(crate::specs::Queries::value_on))]
 fn value_on<'a, B: Brackets>(
     alloc: Global,
@@ -29,7 +29,7 @@ fn value_on<'a, B: Brackets>(
     Ok((Item::Value(value, name), rest))
 }
 
-// The rest of an item behind its first name: `. *`, or the rest of an expression.
+// The rest of an item after its first name: `. *`, or the rest of an expression.
 #[tactic(auto, unfolding(crate::specs::Queries::starred_on))]
 fn starred_on<'a, B: Brackets>(
     alloc: Global,

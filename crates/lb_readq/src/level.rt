@@ -35,7 +35,7 @@ impl<F: for<'t> Fn(&'t [Token], Wanted) -> Read<'t, Inside>> Brackets for Throug
     }
 }
 
-// Reads what stands behind an opener, where `depth` brackets might still open before it.
+// Reads what stands after an opener, where `depth` brackets might still open before it.
 #[cycle(levels)]
 #[tactic(auto, using(crate::proofs::Levels::one_in, crate::proofs::Levels::none_in))]
 fn below<'a>(alloc: Global, tokens: &'a [Token], depth: u32, wanted: Wanted) -> Read<'a, Inside>

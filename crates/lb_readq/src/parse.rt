@@ -6,8 +6,8 @@ ghost use Rattle.lb_tok.specs.declared.token.Token.{Token};
 ghost use Rattle.lb_tok.specs.declared.lex.ReadFault.TheVariants.{Syntax};
 ghost use Rattle.lb_readq.specs.Queries.{query_or_write_at, statement_at, ended};
 ghost use Rattle.lb_readt.specs.Answering.{Gives};
-ghost use Rattle.lb_tok.specs.Refusals.{IsRead, FaultSays, StandsAt};
-ghost use Rattle.lb_tok.specs.Syntax.{most_brackets};
+ghost use Rattle.lb_tok.specs.Refusals.{IsSpelledWithin, FaultSays, StandsAt};
+ghost use Rattle.lb_tok.specs.Limit.{most_brackets};
 
 use crate::level::Depth;
 use crate::select_statement::select;
@@ -27,7 +27,7 @@ pub const MOST_BRACKETS: u32 = 64;
 #[tactic(none)]
 pub fn query_or_write(alloc: Global, tokens: &Tokens) -> Result<Stmt, ReadFault>
     requires { length tokens.now.spans ≡ length tokens.now.tokens }
-    ensures read { IfOk result (λ s. IsRead IsQueryOrWrite most_brackets tokens.now s) }
+    ensures read { IfOk result (λ s. IsSpelledWithin IsQueryOrWrite most_brackets tokens.now s) }
     ensures refused { IfErr result (λ e. FaultSays IsQueryOrWrite most_brackets tokens.now e) }
 {
     match whole(alloc, tokens.tokens.as_slice()) {

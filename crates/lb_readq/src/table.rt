@@ -1,4 +1,4 @@
-// Tables and their joins.
+// Reads the tables of FROM and their joins.
 ghost use Rattle.std.specs.Prelude.{◌≡◌, ◌<◌, [], Some, None, false};
 ghost use Rattle.lb_readt.specs.Readers.{heads, many, listed};
 ghost use Rattle.lb_readt.specs.Answering.{Gives};
@@ -28,7 +28,7 @@ pub fn alias<'a>(tokens: &'a [Token]) -> Read<'a, Option<Name>>
     }
 }
 
-/// Reads a table with its correlation name, `name [[AS] name]`. `Bad` where no name stands first or behind AS.
+/// Reads a table with its correlation name, `name [[AS] name]`. `Bad` where no name stands first or after AS.
 #[tactic(auto, unfolding(crate::specs::Queries::tab_at))]
 pub fn tab<'a>(tokens: &'a [Token]) -> Read<'a, Tab>
     ensures { Gives (λ r. (r.0, r.1.now)) result (tab_at tokens.now) }

@@ -1,4 +1,4 @@
--- What the loop that reads a list has read and has still to read, turn by turn; and a list behind its first item.
+-- What the loop that reads a list has read and has still to read, turn by turn; and a list after its first item.
 use Rattle.std.proofs.Common.{true, false, ◌≡◌, ℕ, suc, ◌-◌, ◌+◌, ◌≤◌, ◌<◌, List, [], ◌∷◌, ◌++◌, length, refl, sym, ap, subst, ◌∙◌, append_assoc, arith}
 use Rattle.std.proofs.lemmas.List.{append-nil}
 use Rattle.lb_tok.specs.declared.kind.Kind.{Kind}

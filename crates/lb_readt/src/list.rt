@@ -22,7 +22,7 @@ pub fn with_first<T: Drop>(alloc: Global, first: T, more: Items<T>) -> Result<It
     Ok(all)
 }
 
-/// Passes over a word that may be left out and changes nothing: the tokens behind it, or all where it isn't written.
+/// Passes over a word that may be left out and changes nothing: the tokens after it, or all where it isn't written.
 pub fn noise<'a>(tokens: &'a [Token], kind: Kind) -> &'a [Token]
     ensures { may kind tokens.now ≡ got tt result.now }
 {
@@ -32,7 +32,7 @@ pub fn noise<'a>(tokens: &'a [Token], kind: Kind) -> &'a [Token]
     }
 }
 
-/// Takes a word that may be left out: whether it is written, and the tokens behind it.
+/// Takes a word that may be left out: whether it is written, and the tokens after it.
 pub fn flag<'a>(tokens: &'a [Token], kind: Kind) -> (bool, &'a [Token])
     ensures { flag kind tokens.now ≡ got result.0 result.1.now }
 {

@@ -12,7 +12,7 @@ use lb_base::{Name, Str, date_of};
 use lb_tok::{Call, Content, Kind, Token};
 use lb_tree::Comparison;
 
-// The least magnitude that a 64-bit integer holds only behind a minus.
+// The least magnitude that a 64-bit integer holds only after a minus.
 const LIMIT: u64 = 9223372036854775808;
 
 /// Whether the next token is of this kind.
@@ -56,7 +56,7 @@ pub fn next_is_either(tokens: &[Token], one: Kind, other: Kind) -> bool
     }
 }
 
-/// Takes a token of this kind: the tokens behind it. `Bad` where the next token is of another kind, or none is left.
+/// Takes a token of this kind: the tokens after it. `Bad` where the next token is of another kind, or none is left.
 pub fn take<'a>(tokens: &'a [Token], kind: Kind) -> Result<&'a [Token], Fault<'a>>
     ensures { Gives (λ r. (tt, r.now)) result (word kind tokens.now) }
 {
@@ -157,7 +157,7 @@ pub fn int<'a>(tokens: &'a [Token]) -> Read<'a, i64>
     }
 }
 
-/// Reads an integer behind a minus that is taken: the negative of a number up to 2^63. `Bad` at any other token.
+/// Reads an integer after a minus that is taken: the negative of a number up to 2^63. `Bad` at any other token.
 pub fn negative<'a>(tokens: &'a [Token]) -> Read<'a, i64>
     ensures { Gives (λ r. (r.0, r.1.now)) result (negative_at tokens.now) }
 {

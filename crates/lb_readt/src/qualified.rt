@@ -1,4 +1,4 @@
-// Columns: names that may stand behind the name of their table.
+// Columns: names that may stand after the name of their table.
 ghost use Rattle.std.specs.Prelude.{◌<◌, Some, None};
 ghost use Rattle.lb_readt.specs.Readers.{listed};
 ghost use Rattle.lb_readt.specs.Answering.{Gives};
@@ -12,7 +12,7 @@ use lb_tree::Column;
 use sqlite_items::Items;
 use std::alloc::Global;
 
-/// Reads a column, `name [. name]`. `Bad` where no name stands first or behind the point.
+/// Reads a column, `name [. name]`. `Bad` where no name stands first or after the point.
 #[tactic(auto, unfolding(crate::specs::Tokens::column_at, crate::specs::Tokens::column_on))]
 pub fn column<'a>(tokens: &'a [Token]) -> Read<'a, Column>
     ensures { Gives (λ r. (r.0, r.1.now)) result (column_at tokens.now) }

@@ -5,8 +5,8 @@ ghost use Rattle.lb_model.specs.Catalog.{Tables, put_version, table_named};
 ghost use Rattle.lb_model.specs.Change.{type_of, width_of, column_of, create_table as create_table_meant, create_permission as create_permission_meant, activate as activate_meant, change as change_meant};
 ghost use Rattle.lb_refr.specs.Leaves.{Leaves};
 
-use crate::permission::{missing_column, new_permission};
 use crate::find::{is_permission, place_of_table, place_of_version, table_of};
+use crate::permission::{missing_column, new_permission};
 use crate::refused::{exists, unknown};
 use lb_base::{Listing, Name, NoMemory, Ty};
 use lb_model::{ColumnRec, Reply, TableRec, TableVersion};

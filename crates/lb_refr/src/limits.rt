@@ -4,8 +4,8 @@ ghost use Rattle.std.specs.List.{list_any};
 ghost use Rattle.lb_model.specs.Catalog.{table_named, rows_of};
 ghost use Rattle.lb_model.specs.NotYet.{is_too_wide, fits, is_insert_unbuilt};
 
-use crate::find::{place_of_version, table_of};
 use crate::condition::are_rows_insertable;
+use crate::find::{place_of_version, table_of};
 use lb_base::{Name, Row, Ty, Value};
 use lb_model::{ColumnRec, TableRec, TableVersion};
 

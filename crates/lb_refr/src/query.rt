@@ -6,8 +6,8 @@ ghost use Rattle.lb_model.specs.Catalog.{table_named, rows_of};
 ghost use Rattle.lb_model.specs.Visible.{is_allowed, visible};
 ghost use Rattle.lb_model.specs.Answer.{first_table, replied, select_from};
 
-use crate::find::{place_of_version, table_of};
 use crate::condition::is_row_allowed;
+use crate::find::{place_of_version, table_of};
 use crate::refused::unknown;
 use lb_base::{Listing, Name, NoMemory, Row, RowList};
 use lb_model::{Reply, TableRec, TableVersion};

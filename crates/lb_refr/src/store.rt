@@ -74,7 +74,7 @@ impl Store {
     }
 
     /// Runs a query, a write or a change of the user; `rows` are those that the statement gives.
-    /// `Err` is want of memory, after which catalogue and rows are as they were.
+    /// `Err` is out of memory, after which catalogue and rows are as they were.
     pub fn run(
         &mut self,
         alloc: Global,

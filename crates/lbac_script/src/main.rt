@@ -16,7 +16,7 @@ fn no_words(error: &io::Error) -> Status {
     }
 }
 
-/// The words of the command line behind the program's name. Words that are no text are those of a faulty command line.
+/// The words of the command line after the program's name. Words that are no text are those of a faulty command line.
 fn words(rt: &HostRuntime) -> Result<Listing<Str>, Status> {
     let alloc = rt.alloc();
     let mut words = Listing::empty(alloc);

@@ -17,9 +17,9 @@ use Rattle.lb_tok.specs.QueryPieces.{separated, listed, parens, Phrase, enclosed
 use Rattle.lb_tok.specs.Grammar.{ands, ors, InQuery, IsExpr, IsComparison, Negated, IsSet, IsRange, IsPred, IsPrim, IsNeg, IsConj, IsCond}
 use Rattle.lb_tok.proofs.Opens.{cond_phrase-Or, cond_phrase-And, cond_phrase-Not, cond_phrase-Exists, cond_phrase-Compare, cond_phrase-CompareQuery, cond_phrase-IsNull, cond_phrase-InQuery, cond_phrase-InList, cond_phrase-Between}
 use Rattle.lb_tok.proofs.Fitting.{mark_run}
-use Rattle.lb_tok.proofs.Turning.{Got, split, follow, unmake, meant, which, inside, Spells, seq, made, after, means, left, right, bracket, many_after, listing, lone}
+use Rattle.lb_tok.proofs.SpelledPieces.{Got, split, follow, unmake, meant, which, inside, Spells, seq, made, after, means, left, right, bracket, many_after, listing, lone}
 use Rattle.lb_tok.proofs.Contents.{FormedCond, OperandCond, Turns}
-use Rattle.lb_tok.proofs.TurnedExpressions.{whole_expr}
+use Rattle.lb_tok.proofs.SpelledExpressions.{whole_expr}
 
 -- What brackets hold, one bracket further in too: where a condition is spelled there, brackets hold it here.
 pub record Room (s t : Below) : Type 1 where
@@ -113,7 +113,7 @@ comparison-turn ts comparisons.AtMost g = record { spelled = (keyword kinds.AtMo
 comparison-turn ts comparisons.Greater g = record { spelled = (keyword kinds.Greater, refl, refl, refl); runs = (mark_run kinds.Greater refl, tt) }
 comparison-turn ts comparisons.AtLeast g = record { spelled = (keyword kinds.AtLeast, refl, refl, refl); runs = (mark_run kinds.AtLeast refl, tt) }
 
--- behind the expression: a predicate that holds of it, or does not
+-- after the expression: a predicate that holds of it, or does not
 pub record Behind (t : Below) (e : Expr) (c : Cond) : Type 0 where
   pub pieces : List Piece
   pub is : cond_phrase c ≡ phrase (expr_pieces e ++ pieces) 3

@@ -22,9 +22,9 @@ use Rattle.lb_tok.specs.Form.{Below, Lang}
 use Rattle.lb_tok.specs.Spacing.{Piece, mark, name, dotted, literal, digits, negative}
 use Rattle.lb_tok.specs.QueryPieces.{name_pieces, text_pieces, int_piece, column_pieces, verified, two_texts}
 use Rattle.lb_tok.specs.Dates.{date_text}
-use Rattle.lb_tok.specs.Grammar.{IsName, IsText, IsInt, IsNegative, IsCount, IsDay, alone, IsColumn, IsNumber, IsVerified, IsTwoTexts}
+use Rattle.lb_tok.specs.Grammar.{IsName, IsText, IsInt, IsNegative, IsCount, IsDayLiteral, alone, IsColumn, IsNumber, IsVerified, IsTwoTexts}
 use Rattle.lb_tok.proofs.Fitting.{IsFree, name_run, dotted_run, literal_run, digits_run, negative_run}
-use Rattle.lb_tok.proofs.Turning.{Got, AreTokens, split, follow, unmake, nothing_is, which, Spells, seq, give, made, after, left, right, regroup, many_after, has_only}
+use Rattle.lb_tok.proofs.SpelledPieces.{Got, AreTokens, split, follow, unmake, nothing_is, which, Spells, seq, give, made, after, left, right, regroup, many_after, has_only}
 use Rattle.lb_tok.proofs.Written.{day_again}
 
 -- ---- names
@@ -164,7 +164,7 @@ count-turn {s} {t} ts z g =
     let e : count_in (contents.Number q.0) ≡ Some (pos q.0) = ap (λ (b : Bool). cond (b && nat_lt q.0 (2 ^ 63)) (Some (pos q.0)) None) (is_below 0 q.0 q.1) ∙ ap (λ (b : Bool). cond b (Some (pos q.0)) None) (is_below q.0 (2 ^ 63) q.2) in
     subst (λ (y : ℤ). Spells IsCount t (int_piece y ∷ []) y) (sym q.3) (record { spelled = (number_token q.0, refl, has_only kinds.Numeral, e); runs = (digits_run q.0 (omega (arith, q.2)), tt) })
 
-pub day-turn : {s t : Below} (ts : List Token) (z : ℤ) → Got IsDay s ts z → Spells IsDay t (literal (date_text z) ∷ []) z
+pub day-turn : {s t : Below} (ts : List Token) (z : ℤ) → Got IsDayLiteral s ts z → Spells IsDayLiteral t (literal (date_text z) ∷ []) z
 day-turn ts z g =
     let q = day_text_of g.spelled.0.content z g.spelled.3 in
     record { spelled = (text_token (date_text z), refl, has_only kinds.Text, day_again q.0 z q.1); runs = (literal_run (date_text z), tt) }

@@ -32,11 +32,11 @@ use Rattle.lb_tok.specs.Grammar.{IsName, IsAlias, IsTab, IsItem, IsItems, IsOn, 
 use Rattle.lb_tok.proofs.Opens.{item_pieces-Everything, item_pieces-AllOf, item_pieces-Value, join_pieces-Inner, join_pieces-Left, join_pieces-Cross, chain_pieces-rolled, query_pieces-rolled}
 use Rattle.lb_tok.specs.Scanning.{number_token}
 use Rattle.lb_tok.proofs.Fitting.{all_of_run, digits_run}
-use Rattle.lb_tok.proofs.Turning.{Got, split, follow, unmake, meant, nothing_is, which, inside, Spells, seq, give, made, word, after, means, left, right, bracket, regroup, many, listing, optional, flagged}
+use Rattle.lb_tok.proofs.SpelledPieces.{Got, split, follow, unmake, meant, nothing_is, which, inside, Spells, seq, give, made, word, after, means, left, right, bracket, regroup, many, listing, optional, flagged}
 use Rattle.lb_tok.proofs.Contents.{Turns}
-use Rattle.lb_tok.proofs.TurnedWords.{free, name-turn, column-turn, count-turn}
-use Rattle.lb_tok.proofs.TurnedExpressions.{whole_expr}
-use Rattle.lb_tok.proofs.TurnedConditions.{Room, whole_cond}
+use Rattle.lb_tok.proofs.SpelledWords.{free, name-turn, column-turn, count-turn}
+use Rattle.lb_tok.proofs.SpelledExpressions.{whole_expr}
+use Rattle.lb_tok.proofs.SpelledConditions.{Room, whole_cond}
 
 -- ---- tables
 

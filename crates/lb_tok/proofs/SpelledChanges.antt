@@ -27,7 +27,7 @@ use Rattle.lb_stmt.specs.declared.change.Exempted.{Exempted}
 use Rattle.lb_base.specs.declared.rule.Rule.TheVariants as rules
 use Rattle.lb_stmt.specs.declared.change.Exempted.TheVariants as exempted
 use Rattle.lb_stmt.specs.declared.change.Privilege.{Privilege}
-use Rattle.lb_stmt.specs.declared.change.Privilege.TheVariants as rights
+use Rattle.lb_stmt.specs.declared.change.Privilege.TheVariants as privileges
 use Rattle.lb_stmt.specs.declared.change.Grantee.{Grantee}
 use Rattle.lb_stmt.specs.declared.change.Grantee.TheVariants as grantees
 use Rattle.lb_stmt.specs.declared.change.Change.{Change}
@@ -41,16 +41,16 @@ use Rattle.lb_tok.specs.Words.{name_in}
 use Rattle.lb_tok.specs.Form.{Below, Lang, Nothing, Seq, Either, Many, Word, After, Made, Means, Optional}
 use Rattle.lb_tok.specs.Spacing.{Piece, mark, keyword, name, opening, literal, tokens_in}
 use Rattle.lb_tok.specs.QueryPieces.{listed, clause, option_of, name_pieces, text_pieces, int_piece}
-use Rattle.lb_tok.specs.ChangePieces.{label_piece, user_pieces, grantee_pieces, plain_pieces, type_pieces, not_null_pieces, key_option_pieces, element_pieces, policy_pieces, activate_kind, control_kind, activation_pieces, second_pieces, switch_kind, replace_pieces, texts_pieces, under_pieces, component_pieces, part_pieces, write_option_kind, access_kind, access_pieces, rule_pieces, exemption_pieces, right_pieces, rights_pieces, change_pieces}
+use Rattle.lb_tok.specs.ChangePieces.{label_piece, user_pieces, grantee_pieces, plain_pieces, type_pieces, not_null_pieces, key_option_pieces, element_pieces, policy_pieces, activate_kind, control_kind, activation_pieces, second_pieces, switch_kind, replace_pieces, texts_pieces, under_pieces, component_pieces, part_pieces, write_option_kind, access_kind, access_pieces, rule_pieces, exemption_pieces, privilege_pieces, privileges_pieces, change_pieces}
 use Rattle.lb_tok.specs.Grammar.{IsName, IsCase, IsCond, IsTab}
-use Rattle.lb_tok.specs.Changes.{Named, AfterNamed, IsUser, IsGrantee, IsLabelName, IsPlainType, IsType, IsOption, IsSecured, any_is, IsColumnDef, IsElement, IsCreateTable, IsActivation, IsAdded, IsAlteredColumn, IsActs, IsAlterTable, IsSwitch, IsFirstSwitch, IsReplace, IsPermission, IsMask, IsTexts, IsTreeElement, IsComponentDef, IsPart, IsCreateLabel, IsWriteOption, IsCreatePolicy, IsDropLabel, IsAccess, IsRule, IsRuleOf, IsRight, IsRightsOn, IsGrant, IsRevoke, IsCreate, IsAlter, IsDrop, IsChange}
+use Rattle.lb_tok.specs.Changes.{Named, AfterNamed, IsUser, IsGrantee, IsLabelName, IsPlainType, IsType, IsOption, IsSecured, any_is, IsColumnDef, IsElement, IsCreateTable, IsActivation, IsAdded, IsAlteredColumn, IsActs, IsAlterTable, IsSwitch, IsFirstSwitch, IsReplace, IsPermission, IsMask, IsTexts, IsTreeElement, IsComponentDef, IsPart, IsCreateLabel, IsWriteOption, IsCreatePolicy, IsDropLabel, IsAccess, IsRule, IsRuleOf, IsRight, IsPrivilegesOn, IsGrant, IsRevoke, IsCreate, IsAlter, IsDrop, IsChange}
 use Rattle.lb_tok.proofs.Signs.{signs}
 use Rattle.lb_tok.proofs.Fitting.{IsFree, mark_run, opening_run}
-use Rattle.lb_tok.proofs.Turning.{Got, split, follow, unmake, meant, nothing_is, which, inside, Spells, seq, give, made, word, after, means, left, right, bracket, regroup, many, listing, optional, has_only}
-use Rattle.lb_tok.proofs.TurnedWords.{free, free_spells, name-turn, text-turn, int-turn, dotted_spells}
-use Rattle.lb_tok.proofs.TurnedExpressions.{case-turn}
-use Rattle.lb_tok.proofs.TurnedConditions.{Room, whole_cond}
-use Rattle.lb_tok.proofs.TurnedQueries.{tab-turn}
+use Rattle.lb_tok.proofs.SpelledPieces.{Got, split, follow, unmake, meant, nothing_is, which, inside, Spells, seq, give, made, word, after, means, left, right, bracket, regroup, many, listing, optional, has_only}
+use Rattle.lb_tok.proofs.SpelledWords.{free, free_spells, name-turn, text-turn, int-turn, dotted_spells}
+use Rattle.lb_tok.proofs.SpelledExpressions.{case-turn}
+use Rattle.lb_tok.proofs.SpelledConditions.{Room, whole_cond}
+use Rattle.lb_tok.proofs.SpelledQueries.{tab-turn}
 
 -- ---- keywords that may be names
 
@@ -301,7 +301,7 @@ unfolding has
 replace_spells true = left (after kinds.Or refl (means kinds.Replace true refl))
 replace_spells false = right (give false)
 
--- behind the condition of a permission
+-- after the condition of a permission
 abbrev PermissionEnd : Bool → List ℕ → Tab → Cond → Lang Change
 PermissionEnd r n b c = After kinds.Enforced (After kinds.For (After kinds.All (After kinds.Access
     (Made (λ s. changes.CreatePermission (record { replace = r; name = n; on = b; condition = c; switch = s })) IsFirstSwitch))))
@@ -310,7 +310,7 @@ permission_end : {t : Below} (r : Bool) (n : List ℕ) (b : Tab) (c : Cond) (s :
 unfolding has
 permission_end r n b c s = after kinds.Enforced refl (after kinds.For refl (after kinds.All refl (after kinds.Access refl (made (left (switch_spells s))))))
 
--- behind the table of a permission
+-- after the table of a permission
 abbrev PermissionRows : Bool → List ℕ → Tab → Lang Change
 PermissionRows r n b = After kinds.For (After kinds.Rows (After kinds.Where (Seq IsCond (PermissionEnd r n b))))
 
@@ -335,7 +335,7 @@ permission-turn {s} {t} room r ts x g =
     (in_replace r (left (permission_front r n.tree b.tree (name-turn n.front n.tree n.left) (tab-turn b.front b.tree b.left)
     (permission_rows r n.tree b.tree c.tree (whole_cond room c.front c.tree c.left) (permission_end r n.tree b.tree c.tree q.tree)))))
 
--- behind the column of a mask
+-- after the column of a mask
 abbrev MaskEnd : Bool → List ℕ → Tab → List ℕ → Lang Change
 MaskEnd r n b c = After kinds.Return (Seq IsCase (λ v. Made (λ s. changes.CreateMask (record { replace = r; name = n; on = b; column = c; value = v; switch = s })) IsFirstSwitch))
 
@@ -343,7 +343,7 @@ mask_end : {t : Below} {ps : List Piece} (r : Bool) (n : List ℕ) (b : Tab) (c 
 unfolding has
 mask_end r n b c v s p = after kinds.Return refl (seq p (made (left (switch_spells s))))
 
--- behind the table of a mask
+-- after the table of a mask
 abbrev MaskColumn : Bool → List ℕ → Tab → Lang Change
 MaskColumn r n b = After kinds.For (After kinds.Column (Seq IsName (MaskEnd r n b)))
 
@@ -539,37 +539,37 @@ rule_of-turn {s} {t} ts x g =
     subst (λ (y : Exempted × List ℕ). Spells IsRuleOf t (rule_of_pieces y) y) (sym q.is)
     (after kinds.On refl (after kinds.Rule refl (seq (rule_spells p.tree) (after kinds.For refl (made (name-turn q.tokens q.tree q.got))))))
 
-right_spells : {s t : Below} (ts : List Token) (r : Privilege) → Got IsRight s ts r → Spells IsRight t (right_pieces r) r
+privilege_spells : {s t : Below} (ts : List Token) (r : Privilege) → Got IsRight s ts r → Spells IsRight t (privilege_pieces r) r
 unfolding has
-right_spells ts rights.Select g = left (means kinds.Select rights.Select refl)
-right_spells ts rights.Insert g = right (left (means kinds.Insert rights.Insert refl))
-right_spells ts rights.Update g = right (right (left (means kinds.Update rights.Update refl)))
-right_spells ts rights.Delete g = right (right (right (means kinds.Delete rights.Delete refl)))
+privilege_spells ts privileges.Select g = left (means kinds.Select privileges.Select refl)
+privilege_spells ts privileges.Insert g = right (left (means kinds.Insert privileges.Insert refl))
+privilege_spells ts privileges.Update g = right (right (left (means kinds.Update privileges.Update refl)))
+privilege_spells ts privileges.Delete g = right (right (right (means kinds.Delete privileges.Delete refl)))
 
 -- the privileges, the table, TO or FROM, and the grantee
-rights_shape : (rs : List Privilege) (n : List ℕ) (k : Piece) (g : List Piece) → listed (map right_pieces rs) ++ mark kinds.On ∷ name n ∷ k ∷ g ≡ rights_pieces rs n ++ k ∷ g
-rights_shape rs n k g = sym (append_assoc (listed (map right_pieces rs)) (mark kinds.On ∷ name n ∷ []) (k ∷ g))
+privileges_shape : (rs : List Privilege) (n : List ℕ) (k : Piece) (g : List Piece) → listed (map privilege_pieces rs) ++ mark kinds.On ∷ name n ∷ k ∷ g ≡ privileges_pieces rs n ++ k ∷ g
+privileges_shape rs n k g = sym (append_assoc (listed (map privilege_pieces rs)) (mark kinds.On ∷ name n ∷ []) (k ∷ g))
 
-record RightsOn (f : List Privilege → List ℕ → Grantee → Change) (W : Lang (Unit {0})) (k : Piece) (t : Below) (x : Change) : Type 0 where
-  pub rights : List Privilege
+record PrivilegesOn (f : List Privilege → List ℕ → Grantee → Change) (W : Lang (Unit {0})) (k : Piece) (t : Below) (x : Change) : Type 0 where
+  pub privileges : List Privilege
   pub table : List ℕ
   pub grantee : Grantee
-  pub is : x ≡ f rights table grantee
-  pub spells : Spells (IsRightsOn f W) t (rights_pieces rights table ++ k ∷ grantee_pieces grantee) (f rights table grantee)
+  pub is : x ≡ f privileges table grantee
+  pub spells : Spells (IsPrivilegesOn f W) t (privileges_pieces privileges table ++ k ∷ grantee_pieces grantee) (f privileges table grantee)
 
-rights_on : {s t : Below} (f : List Privilege → List ℕ → Grantee → Change) (W : Lang (Unit {0})) (k : Piece) → Spells W t (k ∷ []) tt → (ts : List Token) (x : Change) → Got (IsRightsOn f W) s ts x → RightsOn f W k t x
+privileges_on : {s t : Below} (f : List Privilege → List ℕ → Grantee → Change) (W : Lang (Unit {0})) (k : Piece) → Spells W t (k ∷ []) tt → (ts : List Token) (x : Change) → Got (IsPrivilegesOn f W) s ts x → PrivilegesOn f W k t x
 unfolding has
-rights_on {s} {t} f W k w ts x g =
+privileges_on {s} {t} f W k w ts x g =
     let p = split g in
     let n = split (follow (follow p.right).got).got in
     let q = unmake (follow n.right).got in
     record {
-      rights = p.tree;
+      privileges = p.tree;
       table = n.tree;
       grantee = q.tree;
       is = q.is;
-      spells = subst (λ (ps : List Piece). Spells (IsRightsOn f W) t ps (f p.tree n.tree q.tree)) (rights_shape p.tree n.tree k (grantee_pieces q.tree))
-          (seq (listing right_pieces right_spells p.tree p.front p.left) (after kinds.On refl (without (seq (name-turn n.front n.tree n.left) (seq w (made (grantee-turn q.tokens q.tree q.got)))))));
+      spells = subst (λ (ps : List Piece). Spells (IsPrivilegesOn f W) t ps (f p.tree n.tree q.tree)) (privileges_shape p.tree n.tree k (grantee_pieces q.tree))
+          (seq (listing privilege_pieces privilege_spells p.tree p.front p.left) (after kinds.On refl (without (seq (name-turn n.front n.tree n.left) (seq w (made (grantee-turn q.tokens q.tree q.got)))))));
     }
 
 exemption_shape : (r : Exempted) (n : List ℕ) (k : Piece) (u : List Piece) → mark kinds.Exemption ∷ (rule_of_pieces (r, n) ++ k ∷ u) ≡ exemption_pieces r n ++ k ∷ u
@@ -594,7 +594,7 @@ grant-turn {s} {t} ts x g =
     (λ a. let q = unmake (follow (follow (follow (follow a).got).got).got).got in
     subst (λ (y : Change). Spells IsChange t (change_pieces y) y) (sym q.is)
     (in_grant (right (right (right (left (after kinds.Secadm refl (after kinds.On refl (after kinds.Database refl (after kinds.To refl (made (user-turn q.tokens q.tree q.got))))))))))))
-    (λ a. let q = rights_on changes.GrantPrivileges (Named kinds.To) (mark kinds.To) (named kinds.To refl refl) ts x a in
+    (λ a. let q = privileges_on changes.GrantPrivileges (Named kinds.To) (mark kinds.To) (named kinds.To refl refl) ts x a in
     subst (λ (y : Change). Spells IsChange t (change_pieces y) y) (sym q.is)
     (in_grant (right (right (right (right (q.spells))))))))))
 
@@ -617,7 +617,7 @@ revoke-turn {s} {t} ts x g =
     (λ a. let q = unmake (follow (follow (follow (follow a).got).got).got).got in
     subst (λ (y : Change). Spells IsChange t (change_pieces y) y) (sym q.is)
     (in_revoke (right (right (right (left (after kinds.Secadm refl (after kinds.On refl (after kinds.Database refl (after kinds.From refl (made (user-turn q.tokens q.tree q.got))))))))))))
-    (λ a. let q = rights_on changes.RevokePrivileges (Word kinds.From) (mark kinds.From) (word kinds.From refl) ts x a in
+    (λ a. let q = privileges_on changes.RevokePrivileges (Word kinds.From) (mark kinds.From) (word kinds.From refl) ts x a in
     subst (λ (y : Change). Spells IsChange t (change_pieces y) y) (sym q.is)
     (in_revoke (right (right (right (right (q.spells))))))))))
 

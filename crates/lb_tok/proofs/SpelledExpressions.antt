@@ -26,13 +26,13 @@ use Rattle.lb_tok.specs.Words.{name_in, call_of}
 use Rattle.lb_tok.specs.Form.{Below, Many, After, Made}
 use Rattle.lb_tok.specs.Spacing.{Piece, mark, keyword, opening}
 use Rattle.lb_tok.specs.QueryPieces.{listed, clause, option_of, Phrase, enclosed, at_least, sign_kind, signed, sum_pieces, else_pieces, case_pieces, aggregate_front, function_kind, expr_phrase, expr_pieces, arm_pieces, choice_pieces, signed_part}
-use Rattle.lb_tok.specs.Grammar.{IsDay, sums, concats, products, InExpr, IsArm, IsChoice, IsElse, IsCase, IsCounted, IsParted, IsFirstOf, IsShown, IsArguments, IsFunction, IsCall, IsToday, IsLiteral, IsFact, IsTerm, IsConcat, IsSign, IsSigned, IsExpr}
+use Rattle.lb_tok.specs.Grammar.{IsDayLiteral, sums, concats, products, InExpr, IsArm, IsChoice, IsElse, IsCase, IsCounted, IsParted, IsFirstOf, IsShown, IsArguments, IsFunction, IsCall, IsToday, IsLiteral, IsFact, IsTerm, IsConcat, IsSign, IsSigned, IsExpr}
 use Rattle.lb_tok.proofs.Opens.{flat_fused, expr_phrase-Atom, expr_phrase-Sum, expr_phrase-Concat, expr_phrase-Product, expr_phrase-Case, expr_phrase-Match, expr_phrase-Aggregate, expr_phrase-Substr, expr_phrase-Apply, expr_phrase-Coalesce, arm_pieces-out, choice_pieces-out, signed_part-out}
 use Rattle.lb_tok.proofs.Signs.{signs}
 use Rattle.lb_tok.proofs.Fitting.{opening_run}
-use Rattle.lb_tok.proofs.Turning.{Got, split, follow, unmake, meant, which, inside, Spells, seq, made, word, after, means, left, right, bracket, regroup, many, many_after, listing, lone, optional}
+use Rattle.lb_tok.proofs.SpelledPieces.{Got, split, follow, unmake, meant, which, inside, Spells, seq, made, word, after, means, left, right, bracket, regroup, many, many_after, listing, lone, optional}
 use Rattle.lb_tok.proofs.Contents.{Formed, Operand, Turns}
-use Rattle.lb_tok.proofs.TurnedWords.{column-turn, text-turn, day-turn, number-turn, verified-turn, two_texts-turn}
+use Rattle.lb_tok.proofs.SpelledWords.{column-turn, text-turn, day-turn, number-turn, verified-turn, two_texts-turn}
 
 -- ---- levels
 
@@ -265,7 +265,7 @@ parted-turn {s} {t} u ts e g =
     (as_call (called kinds.Substr calls.Substr refl refl refl refl (bracket kinds.Open kinds.Close refl refl
     (seq (inner u p.front p.tree p.left) (after kinds.Comma refl (seq (inner u q.front q.tree q.left) (made (optional kinds.Comma refl expr_pieces (inner u) r.tokens r.tree r.got)))))))))
 
--- behind the first part of a list
+-- after the first part of a list
 behind_first : {A : Type 0} (f : A → List Piece) (x : A) (xs : List A) (y : A) (ys : List A) → xs ≡ y ∷ ys → f x ++ mark kinds.Comma ∷ listed (map f xs) ≡ listed (map f (x ∷ xs))
 behind_first {A} f x xs y ys e = subst (λ (zs : List A). f x ++ mark kinds.Comma ∷ listed (map f zs) ≡ listed (map f (x ∷ zs))) (sym e) refl
 
@@ -292,7 +292,7 @@ shown-turn {s} {t} ts e g =
     (as_call (called kinds.SecLabelToChar calls.SecLabelToChar refl refl refl refl (bracket kinds.Open kinds.Close refl refl
     (seq (text-turn p.front p.tree p.left) (after kinds.Comma refl (made (column-turn r.tokens r.tree r.got))))))))
 
-date-turn : {s t : Below} (ts : List Token) (e : Expr) → Got (Made (λ d. exprs.Atom (atoms.Date d)) IsDay) s ts e → Operand 3 t e
+date-turn : {s t : Below} (ts : List Token) (e : Expr) → Got (Made (λ d. exprs.Atom (atoms.Date d)) IsDayLiteral) s ts e → Operand 3 t e
 unfolding has call_of
 date-turn {s} {t} ts e g =
     let q = unmake g in
