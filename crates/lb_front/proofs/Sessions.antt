@@ -165,13 +165,11 @@ not_begun J limit s all g w0 w1 w I o made = record {
 pub ended : (first b : Book) (s now : Session) (all : List (List ℕ)) (i : ℕ) (o : Outside) (f0 f1 : ℕ) → SessionLoops first b s now (take i all) o f0 f1 → length all ≤ i
     → (I : List Entry) → IsOpened I first.journal.items s.user s.groups s → IsMade I → SectionWritten I b.journal.items first.limit (session_section s all) o
 ended first b s now all i o f0 f1 h le I p made =
-    let J : List Entry = b.journal.items in
-    let l0 : ℕ = first.limit in
     let whole : take i all ≡ all = take_all i all le in
-    let q : SessionProgress I J l0 s all o = rw (← h.same_limit, ← whole) (h.progress I p made) in
+    let q : SessionProgress I b.journal.items first.limit s all o = rw (← h.same_limit, ← whole) (h.progress I p made) in
     record {
       result = record { opening = opened s.place s.number; days = q.days; answers = q.answers };
-      ran = rw p.place (ran_session I J l0 s.number s.user s.groups all q.days q.answers q.telling);
+      ran = rw p.place (ran_session I b.journal.items first.limit s.number s.user s.groups all q.days q.answers q.telling);
       clock = q.clock;
       bytes = q.bytes;
     }
