@@ -1,5 +1,4 @@
-// Prints a journal: the line with the number of its entries, and the line of each entry. The workers' program will
-// call it.
+// Prints a journal: the line with the number of its entries, and the line of each entry.
 ghost use Rattle.std.specs.Prelude.{◌≡◌, ◌++◌, IfOk, OnOk, string_bytes};
 ghost use Rattle.lb_block.specs.Journal.{entry_text, entry_words, journal_text};
 ghost use Rattle.lb_block.specs.Parts.{behind_blanks};
@@ -9,7 +8,7 @@ use lb_base::{Name, NoMemory, Str};
 use lb_model::Entry;
 use std::alloc::Global;
 
-/// The first line of a journal: of how many entries the lines follow. The only error is out of memory.
+/// The first line of a journal, with the number of its entries. The only error is out of memory.
 pub fn journal(alloc: Global, entries: u64) -> Result<Str, NoMemory>
     ensures { IfOk result (λ t. t ≡ journal_text entries) }
 {

@@ -63,11 +63,11 @@ pub fn reason_word(refusal: &Refusal) -> &'static str
     }
 }
 
-/// A right on a table.
-pub fn privilege_word(right: NeededPrivilege) -> &'static str
-    ensures { result.now ≡ privilege_text right }
+/// A privilege on a table.
+pub fn privilege_word(privilege: NeededPrivilege) -> &'static str
+    ensures { result.now ≡ privilege_text privilege }
 {
-    match right {
+    match privilege {
         NeededPrivilege::Select => "SELECT",
         NeededPrivilege::Insert => "INSERT",
         NeededPrivilege::Update => "UPDATE",

@@ -45,7 +45,7 @@ stop_reply (stops.Syntax at) = replies.Refused (refusals.Syntax at)
 stop_reply stops.NotYet = replies.Refused refusals.NotYet
 stop_reply (stops.JournalFull n) = replies.Refused (refusals.JournalFull n)
 
--- the statement was run: what it leaves stands, and the reply is the reference's, or of a query out of memory
+-- the statement was run: what it leaves stands, and the reply is the reference's, or, of a query, NOMEMORY
 pub record Did (old new : Stored) (user : List ℕ) (stmt : Stmt) (r : Reply) : Type 0 where
   pub cat : (groups : List (List ℕ)) (day : ℤ) → new.cat ≡ (outcome old.cat old.tables user groups day stmt).cat
   pub tables : (groups : List (List ℕ)) (day : ℤ) → new.tables ≡ (outcome old.cat old.tables user groups day stmt).tables

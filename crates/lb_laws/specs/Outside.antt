@@ -1,4 +1,4 @@
--- What a run takes from outside, besides its script: the day of each statement, and where memory is wanting.
+-- What a run takes from outside, besides its script: the day of each statement, and where memory runs out.
 use Rattle.std.specs.Prelude.{ℕ, ◌≡◌, Bool, List, map, Option, None, Some, is_some}
 use Rattle.lb_model.specs.declared.reply.Answer.{Answer}
 use Rattle.lb_model.specs.declared.reply.Reply.{Reply}

@@ -26,7 +26,7 @@ abbrev pub mark_of : Stmt → Mark
 mark_of s = mark_if (is_change s)
 
 -- Of a statement that ran: its entry is the session's next one, at the answer's place, with its canonical text and its day;
--- it is built where the entries before that place stand; and the reply is that of the place, or of a query out of memory.
+-- it is built where the entries before that place stand; and the reply is that of the place, or, of a query, NOMEMORY.
 pub record Placed (J : List Entry) (user text : List ℕ) (day : ℤ) (next : ℕ × Said) (a : Answer) : Type 0 where
   pub place : a.place ≡ Some next.0
   pub there : slice_get J next.0 ≡ Some (entries.Said next.1)

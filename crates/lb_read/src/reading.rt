@@ -20,7 +20,7 @@ use std::alloc::Global;
 /// Errors: `Syntax(at)` with the byte, from 0, at which the text goes wrong: 4096 where it is longer than that; else the
 /// first byte that is not UTF-8; else the beginning of the first token with which no statement goes on, or that opens a
 /// 65th bracket; else the byte that begins no token; else the text's length, where more must follow. `NoMemory` where
-/// memory is wanting. No text is both read and refused, and none is refused at two bytes: see the laws.
+/// memory runs out. No text is both read and refused, and none is refused at two bytes: see the laws.
 pub fn read(alloc: Global, text: &[u8]) -> Result<Stmt, ReadFault>
     ensures read { IfOk result (IsTextOf text.now) }
     ensures refused { IfErr result (FailsSo text.now) }

@@ -14,7 +14,7 @@ pub record HoldsStatementOf (text : List ℕ) (r : Readable) : Type 0 where
   pub canonical_text : r.text ≡ canonical r.stmt
   pub again : IsTextOf r.text r.stmt
 
--- why a text has no such statement: it is refused at that byte. Memory may always be wanting.
+-- why a text has no such statement: it is refused at that byte. Memory may always run out.
 abbrev pub IsRefusedSo : List ℕ → ReadFault → Type 0
 IsRefusedSo text faults.NoMemory = Unit {0}
 IsRefusedSo text (faults.Syntax at) = IsSyntaxAt text at
@@ -26,7 +26,7 @@ pub record IsReadAgain (s : Stmt) (r : Readable) : Type 0 where
   pub reads : IsTextOf (canonical s) s
   pub within : IsBeyond s → ⊥
 
--- why a statement is not read from its canonical text: that goes beyond a limit. Memory may always be wanting.
+-- why a statement is not read from its canonical text: that goes beyond a limit. Memory may always run out.
 abbrev pub FailsAgain : Stmt → ReadFault → Type 0
 FailsAgain s faults.NoMemory = Unit {0}
 FailsAgain s (faults.Syntax at) = IsBeyond s × (at ≡ most_statement_bytes)

@@ -16,7 +16,7 @@ use std::alloc::Global;
 ///
 /// Errors: `Syntax(at)` with the byte, from 0, at which the text goes wrong, as `lb_read::read` tells it; and `Syntax(4096)`
 /// where the text is read, but its canonical text has more than 4,096 bytes or more than 64 brackets open at a time, so
-/// that it can't be read again. `NoMemory` where memory is wanting.
+/// that it can't be read again. `NoMemory` where memory runs out.
 pub fn readable(alloc: Global, text: &[u8]) -> Result<Readable, ReadFault>
     ensures read { IfOk result (HoldsStatementOf text.now) }
     ensures refused { IfErr result (IsRefusedSo text.now) }
@@ -30,7 +30,7 @@ pub fn readable(alloc: Global, text: &[u8]) -> Result<Readable, ReadFault>
 /// Prints a statement that some text spells, and reads what was printed: the statement that is read is the same.
 ///
 /// Errors: `Syntax(4096)` where the canonical text has more than 4,096 bytes or more than 64 brackets open at a time.
-/// `NoMemory` where memory is wanting.
+/// `NoMemory` where memory runs out.
 pub fn read_back(alloc: Global, stmt: &Stmt) -> Result<Stmt, ReadFault>
     requires spoken { IsSpoken stmt.now }
     ensures same { IfOk result (λ s. s ≡ stmt.now) }

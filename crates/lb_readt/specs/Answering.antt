@@ -7,7 +7,7 @@ use Rattle.lb_readt.specs.declared.fault.Fault.{Fault}
 use Rattle.lb_readt.specs.declared.fault.Fault.TheVariants.{Memory, Bad, Deep}
 use Rattle.lb_readt.specs.Readers.{bad, deep, Answer, got, stop, Reader, heads}
 
--- a fault is the reader's stop at the same tokens; out of memory says nothing
+-- a fault is the reader's stop at the same tokens; where memory runs out nothing is said
 abbrev pub Faults : {Y : Type 0} → Fault → Answer Y → Type 0
 Faults Memory a = Unit {0}
 Faults (Bad rest) a = a ≡ stop bad rest.now

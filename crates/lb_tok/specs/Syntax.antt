@@ -28,7 +28,7 @@ GoesWrong text at =
     ⊎ ((length text ≤ most_statement_bytes) × IsValidUpTo text at)
     ⊎ ((length text ≤ most_statement_bytes) × IsUtf8 text × (found : Tokens) × Lexed text found × IsRefusedAt IsStmt most_brackets found at)
 
--- why a text is not read: it goes wrong at that byte. Memory may always be wanting.
+-- why a text is not read: it goes wrong at that byte. Memory may always run out.
 abbrev pub FailsSo : List ℕ → ReadFault → Type 0
 FailsSo text faults.NoMemory = Unit {0}
 FailsSo text (faults.Syntax at) = GoesWrong text at

@@ -413,7 +413,7 @@ fn scan(alloc: Global, text: &str) -> Result<Tokens, AllocError>
 pub fn tokens(alloc: Global, text: &[u8]) -> Result<Tokens, ReadFault>
     ensures read { IfOk result (λ found. (length text.now ≤ most_statement_bytes) × IsUtf8 text.now × Lexed text.now found) }
     ensures paired { IfOk result (λ found. length found.spans ≡ length found.tokens) }
-    // Too long a text goes wrong at 4096, and one that is not UTF-8 after its longest front that is.
+    // A text that is too long goes wrong at 4096, and one that is not UTF-8 after its longest front that is.
     ensures fault { IfErr result (IsTextFault text.now) }
 {
     if text.len() > MOST_STATEMENT_BYTES {
