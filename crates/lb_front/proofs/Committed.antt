@@ -25,7 +25,7 @@ use Rattle.lb_model.specs.Replay.{Steps, Replay, Rep}
 use Rattle.lb_model.specs.NotYet.{IsUnbuilt}
 use Rattle.lb_model.specs.Told.{Placed, IsUnplaced, Unplaced, mark_of}
 use Rattle.lb_model.proofs.There.{runs_more}
-use Rattle.lb_model.proofs.GrewBy.{get_end, made_more, opened_more}
+use Rattle.lb_model.proofs.Longer.{get_end, made_more, opened_more}
 use Rattle.lb_model.proofs.Sessions.{opened_last, said_none}
 use Rattle.lb_refr.specs.Stored.{Stored}
 use Rattle.lb_front.specs.declared.book.Session.{Session}
@@ -178,6 +178,13 @@ executed_left J K limit session now text day a e h = subst (λ (p : Option ℕ).
 
 pub executed_added : (J K : List Entry) (limit : ℕ) (session now : Session) (text : List ℕ) (day : ℤ) (a : Answer) (place : ℕ) → a.place ≡ Some place → Added J K session now text day a → Executed J K limit session now text day a
 executed_added J K limit session now text day a place e h = subst (λ (p : Option ℕ). ExecutedAt p J K limit session now text day a) (sym e) h
+
+-- a statement was prepared from the text and committed: that executes the text, on the day of the statement
+pub executed_by : (J K : List Entry) (limit : ℕ) (stored : Stored) (session now : Session) (text : List ℕ) (day : ℤ) (p : Prepared) (a : Answer) → IsReady J limit stored session day p → IsRepeatable text p.stmt → a.place ≡ Some (length J)
+    → ((t : List ℕ) → IsRepeatable t p.stmt → Added J K session now t p.said.day a) → Executed J K limit session now text day a
+executed_by J K limit stored session now text day p a ready reads place added =
+    let today : p.said.day ≡ day = ap (λ (d : Said). d.day) ready.said in
+    executed_added J K limit session now text day a (length J) place (subst (λ (d : ℤ). Added J K session now text d a) today (added text reads))
 
 pub answer_is : (J : List Entry) (place : ℕ) (s : Stmt) (mark : Mark) (r : Reply) → place ≡ length J → mark ≡ mark_of s
     → ◌≡◌ {A = Answer} (record { place = Some place; mark = mark; reply = r }) (record { place = Some (length J); mark = mark_of s; reply = r })

@@ -9,7 +9,7 @@ pub returns-in-Err-clause-cut : goal.returns-in-Err-clause-cut
 returns-in-Err-clause-cut g c =
     let all : List Section = map (section_in c.args.bytes.now) c.args.sections.now in
     let more = mapped_more (section_in c.args.bytes.now) c.args.sections.now c.loop-section.section-index c.section-item.result (section_in c.args.bytes.now c.section-item.result) (ap (section_in c.args.bytes.now) c.section-item.is) c.loop-section-test.true in
-    looping_cut _ _ _ all c.loop-section.section-index _ _ _ _ _ _ _ _ _ c.loop-section.invariant more c.in-Err.ensures.cut c.run_section.ensures.stands c.run_section.ensures.limit
+    looping_cut _ _ c.run_section.new.book all c.loop-section.section-index _ _ _ _ _ _ _ _ _ c.loop-section.invariant more c.in-Err.ensures.cut c.run_section.ensures.stands c.run_section.ensures.limit
 
 pub loop-section-preserved : goal.loop-section-preserved
 loop-section-preserved g c =

@@ -25,7 +25,7 @@ returns-in-Err-put_block-clause-cut g c =
     let same : to_z w32 (of_z w32 c.today-day.result) ≡ c.today-day.result = to_z-of_z w32 c.today-day.result small in
     let all : List (List ℕ) = map (text_in c.args.bytes.now) c.args.statements.now in
     let more = mapped_more (text_in c.args.bytes.now) c.args.statements.now c.loop-span.span-index (0, 0) c.text_at.result.now c.text_at.ensures c.loop-span-test.true in
-    looping_cut _ _ _ _ _ _ all c.loop-span.span-index _ _ _ _ _ _ _ _ _ _ _ c.loop-span.invariant more c.execute-answer.ensures.ran c.execute-answer.ensures.stands c.execute-answer.ensures.limit
+    looping_cut _ _ c.execute-answer.new.self _ _ _ all c.loop-span.span-index _ _ _ _ _ _ _ _ _ _ _ c.loop-span.invariant more c.execute-answer.ensures.ran c.execute-answer.ensures.stands c.execute-answer.ensures.limit
     (rw same c.today-day.ensures.days) c.in-Err-put_block.ensures.part
 
 pub returns-in-Err-put_block-clause-sessions : goal.returns-in-Err-put_block-clause-sessions
