@@ -189,7 +189,8 @@ fn in_table<'a>(alloc: Global, tokens: &'a [Token], depth: u32) -> Read<'a, Item
     requires { 0 < depth }
     ensures { Gives (λ r. (r.0, r.1.now)) result (in_table_at depth tokens.now) }
 {
-    listed(alloc, tokens, |rest| element(rest, depth - 1))
+    let depth = depth - 1;
+    listed(alloc, tokens, |rest| element(rest, depth))
 }
 
 // [SECURITY POLICY name]
