@@ -29,7 +29,6 @@ fn tree_element<'a>(tokens: &'a [Token]) -> Read<'a, TreeElement>
 }
 
 // {, text UNDER text}
-#[tactic(auto, unfolding(lb_readt::specs::Readers::commas))]
 fn tree_elements<'a>(alloc: Global, tokens: &'a [Token]) -> Read<'a, Items<TreeElement>>
     ensures { Gives (λ r. (r.0, r.1.now)) result (commas tree_element_at tokens.now) }
 {
