@@ -1,5 +1,6 @@
 // Reads the statements on components, policies and labels.
 ghost use Rattle.std.specs.Prelude.{◌≡◌, ◌++◌};
+ghost use Rattle.lb_readt.specs.Readers.{commas};
 ghost use Rattle.lb_readt.specs.Answering.{Gives};
 ghost use Rattle.lb_readq.specs.Queries.{readers};
 ghost use Rattle.lb_readd.specs.Defining.{tree_element_at, tree_at, component_at, create_component_at, new_label_on, create_label_on, create_label_at, which_option_at, write_option_at, create_policy_at, dropped_label_on, drop_label_on, drop_label_at};
@@ -13,6 +14,7 @@ use lb_readt::{
 };
 use lb_stmt::{Change, ComponentDef, PolicyDef, TreeElement, WriteOption};
 use lb_tok::{Kind, Token};
+use sqlite_items::Items;
 use std::alloc::Global;
 
 // text UNDER text
@@ -26,14 +28,21 @@ fn tree_element<'a>(tokens: &'a [Token]) -> Read<'a, TreeElement>
     Ok((TreeElement { name, parent }, rest))
 }
 
+// {, text UNDER text}
+fn tree_elements<'a>(alloc: Global, tokens: &'a [Token]) -> Read<'a, Items<TreeElement>>
+    ensures { Gives (λ r. (r.0, r.1.now)) result (commas tree_element_at tokens.now) }
+{
+    further(alloc, tokens, Kind::Comma, |rest| tree_element(rest))
+}
+
 // text ROOT {, text UNDER text}
-#[tactic(auto, unfolding(crate::specs::Defining::tree_at, lb_readt::specs::Readers::commas))]
+#[tactic(auto, unfolding(crate::specs::Defining::tree_at))]
 fn tree<'a>(alloc: Global, tokens: &'a [Token]) -> Read<'a, ComponentDef>
     ensures { Gives (λ r. (r.0, r.1.now)) result (tree_at tokens.now) }
 {
     let (root, rest) = text(tokens)?;
     let rest = take(rest, Kind::Root)?;
-    let (others, rest) = further(alloc, rest, Kind::Comma, |rest| tree_element(rest))?;
+    let (others, rest) = tree_elements(alloc, rest)?;
     Ok((ComponentDef::Tree(root, others), rest))
 }
 

@@ -2,7 +2,7 @@
 ghost use Rattle.std.specs.Prelude.{◌≡◌, ◌<◌, ◌∷◌, [], ◌++◌, ◌||◌, not, Some, None};
 ghost use Rattle.lb_tok.specs.Kinds.{only};
 ghost use Rattle.lb_tok.specs.declared.kind.Kind.TheVariants as kinds;
-ghost use Rattle.lb_readt.specs.Readers.{heads};
+ghost use Rattle.lb_readt.specs.Readers.{heads, listed};
 ghost use Rattle.lb_readt.specs.Answering.{Gives};
 ghost use Rattle.lb_readq.specs.Queries.{readers};
 ghost use Rattle.lb_readd.specs.Defining.{width_at, plain_type_at, type_at, option_at, options_at, secured_at, column_on, key_at, element_at, in_table_at, table_policy_at, create_table_at};
@@ -183,13 +183,20 @@ fn element<'a>(tokens: &'a [Token], depth: u32) -> Read<'a, Element>
     }
 }
 
+// elem {, elem}
+fn elements<'a>(alloc: Global, tokens: &'a [Token], depth: u32) -> Read<'a, Items<Element>>
+    ensures { Gives (λ r. (r.0, r.1.now)) result (listed (element_at (readers depth)) tokens.now) }
+{
+    listed(alloc, tokens, |rest| element(rest, depth))
+}
+
 // What the bracket holds.
 #[tactic(auto, using(crate::proofs::Rooms::in_table_is))]
 fn in_table<'a>(alloc: Global, tokens: &'a [Token], depth: u32) -> Read<'a, Items<Element>>
     requires { 0 < depth }
     ensures { Gives (λ r. (r.0, r.1.now)) result (in_table_at depth tokens.now) }
 {
-    listed(alloc, tokens, |rest| element(rest, depth - 1))
+    elements(alloc, tokens, depth - 1)
 }
 
 // [SECURITY POLICY name]

@@ -1,5 +1,6 @@
 // Reads the items of a select list: `*`, `name.*`, expressions with their output names.
 ghost use Rattle.std.specs.Prelude.{◌<◌};
+ghost use Rattle.lb_readt.specs.Readers.{listed};
 ghost use Rattle.lb_readt.specs.Answering.{Gives};
 ghost use Rattle.lb_readq.specs.Queries.{value_on, starred_on, item_at, items_at};
 ghost use Rattle.lb_reade.specs.Expressions.{unnamed_at};
@@ -82,6 +83,18 @@ fn item<'a, B: Brackets>(alloc: Global, tokens: &'a [Token], brackets: &B) -> Re
     }
 }
 
+// item {, item}
+fn item_list<'a, B: Brackets>(
+    alloc: Global,
+    tokens: &'a [Token],
+    brackets: &B,
+) -> Read<'a, Items<Item>>
+    requires { B.ready brackets.now }
+    ensures { Gives (λ r. (r.0, r.1.now)) result (listed (item_at (B.readers brackets.now)) tokens.now) }
+{
+    listed(alloc, tokens, |rest| item(alloc, rest, brackets))
+}
+
 /// Reads the outputs of a query, `* | item {, item}`.
 #[tactic(auto, unfolding(crate::specs::Queries::items_at))]
 pub fn items<'a, B: Brackets>(
@@ -98,6 +111,6 @@ pub fn items<'a, B: Brackets>(
             rest,
         ))
     } else {
-        listed(alloc, tokens, |rest| item(alloc, rest, brackets))
+        item_list(alloc, tokens, brackets)
     }
 }

@@ -49,7 +49,7 @@ fn below<'a>(alloc: Global, tokens: &'a [Token], depth: u32, wanted: Wanted) -> 
 }
 
 // Reads what is wanted, where `depth` brackets may still open and `read` reads what stands in them.
-fn through<'a, F: for<'t> Fn(&'t [Token], Wanted) -> Read<'t, Inside>>(
+fn read_through<'a, F: for<'t> Fn(&'t [Token], Wanted) -> Read<'t, Inside>>(
     alloc: Global,
     tokens: &'a [Token],
     depth: u32,
@@ -89,7 +89,7 @@ fn through<'a, F: for<'t> Fn(&'t [Token], Wanted) -> Read<'t, Inside>>(
 fn level<'a>(alloc: Global, tokens: &'a [Token], depth: u32, wanted: Wanted) -> Read<'a, Inside>
     ensures { Gives (λ r. (inner_of r.0, r.1.now)) result (level_at (readers depth) wanted tokens.now) }
 {
-    through(
+    read_through(
         alloc,
         tokens,
         depth,

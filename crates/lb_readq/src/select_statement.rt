@@ -1,5 +1,6 @@
 // A whole SELECT: the query, its order, and how many of its first rows are fetched.
 ghost use Rattle.std.specs.Prelude.{◌<◌, Some, None};
+ghost use Rattle.lb_readt.specs.Readers.{listed};
 ghost use Rattle.lb_readt.specs.Answering.{Gives};
 ghost use Rattle.lb_readq.specs.Queries.{direction_at, sort_key_at, order_at, row_count_at, fetch_at, may_fetch_at, select_at};
 
@@ -36,6 +37,18 @@ fn sort_key<'a, B: Brackets>(alloc: Global, tokens: &'a [Token], brackets: &B) -
     Ok((SortKey { by, direction }, rest))
 }
 
+// key {, key}
+fn sort_keys<'a, B: Brackets>(
+    alloc: Global,
+    tokens: &'a [Token],
+    brackets: &B,
+) -> Read<'a, Items<SortKey>>
+    requires { B.ready brackets.now }
+    ensures { Gives (λ r. (r.0, r.1.now)) result (listed (sort_key_at (B.readers brackets.now)) tokens.now) }
+{
+    listed(alloc, tokens, |rest| sort_key(alloc, rest, brackets))
+}
+
 // [ORDER BY ..]
 #[tactic(auto, unfolding(crate::specs::Queries::order_at))]
 fn order<'a, B: Brackets>(
@@ -48,7 +61,7 @@ fn order<'a, B: Brackets>(
 {
     if let Some(rest) = take_if(tokens, Kind::Order) {
         let rest = take(rest, Kind::By)?;
-        listed(alloc, rest, |rest| sort_key(alloc, rest, brackets))
+        sort_keys(alloc, rest, brackets)
     } else {
         Ok((Items::new(alloc), tokens))
     }

@@ -1,5 +1,6 @@
 // INSERT, UPDATE and DELETE.
 ghost use Rattle.std.specs.Prelude.{◌<◌, Some, None};
+ghost use Rattle.lb_readt.specs.Readers.{listed};
 ghost use Rattle.lb_readt.specs.Answering.{Gives};
 ghost use Rattle.lb_readq.specs.Queries.{row_at, source_at, targets_at, insert_at, assignment_at, where_at, update_at, delete_at};
 
@@ -26,6 +27,18 @@ fn row<'a, B: Brackets>(alloc: Global, tokens: &'a [Token], brackets: &B) -> Rea
     Ok((row, rest))
 }
 
+// row {, row}
+fn rows<'a, B: Brackets>(
+    alloc: Global,
+    tokens: &'a [Token],
+    brackets: &B,
+) -> Read<'a, Items<Items<Expr>>>
+    requires { B.ready brackets.now }
+    ensures { Gives (λ r. (r.0, r.1.now)) result (listed (row_at (B.readers brackets.now)) tokens.now) }
+{
+    listed(alloc, tokens, |rest| row(alloc, rest, brackets))
+}
+
 // VALUES row {, row} | query [order] [fetch]
 #[tactic(auto, unfolding(crate::specs::Queries::source_at))]
 fn source<'a, B: Brackets>(
@@ -37,7 +50,7 @@ fn source<'a, B: Brackets>(
     ensures { Gives (λ r. (r.0, r.1.now)) result (source_at (B.readers brackets.now) tokens.now) }
 {
     if let Some(rest) = take_if(tokens, Kind::Values) {
-        let (rows, rest) = listed(alloc, rest, |rest| row(alloc, rest, brackets))?;
+        let (rows, rest) = rows(alloc, rest, brackets)?;
         Ok((InsertSource::Rows(rows), rest))
     } else {
         let (select, rest) = select(alloc, tokens, brackets)?;
@@ -102,6 +115,18 @@ fn assignment<'a, B: Brackets>(
     Ok((Assignment { column, value }, rest))
 }
 
+// name = expr {, name = expr}
+fn assignments<'a, B: Brackets>(
+    alloc: Global,
+    tokens: &'a [Token],
+    brackets: &B,
+) -> Read<'a, Items<Assignment>>
+    requires { B.ready brackets.now }
+    ensures { Gives (λ r. (r.0, r.1.now)) result (listed (assignment_at (B.readers brackets.now)) tokens.now) }
+{
+    listed(alloc, tokens, |rest| assignment(alloc, rest, brackets))
+}
+
 // [WHERE cond]
 #[tactic(auto, unfolding(crate::specs::Queries::where_at))]
 fn filter<'a, B: Brackets>(
@@ -129,7 +154,7 @@ pub fn update<'a, B: Brackets>(alloc: Global, tokens: &'a [Token], brackets: &B)
     let rest = take(tokens, Kind::Update)?;
     let (target, rest) = tab(rest)?;
     let rest = take(rest, Kind::Set)?;
-    let (assignments, rest) = listed(alloc, rest, |rest| assignment(alloc, rest, brackets))?;
+    let (assignments, rest) = assignments(alloc, rest, brackets)?;
     let (filter, rest) = filter(alloc, rest, brackets)?;
     Ok((
         Update {

@@ -1,0 +1,6 @@
+use Rattle.std.proofs.Common.{of_calls}
+use Rattle.lb_reade.specs.Expressions.{conj_at}
+use Rattle.lb_reade.proofs.condition.conjs.Goals as goal
+
+pub returns : goal.returns
+returns g c = c.further.ensures (conj_at (g.B.Brackets.readers c.args.brackets.now)) (search of_calls)
