@@ -16,7 +16,7 @@ fn number(rt: &HostRuntime, place: usize) -> Result<usize> {
     }
 }
 
-// A condition behind so many brackets, and its length.
+// A condition after so many brackets, and its length.
 fn nested(alloc: Global, depth: usize) -> Result<String> {
     let mut text = String::from_str(alloc, " OR ")?;
     for _ in 0..depth {

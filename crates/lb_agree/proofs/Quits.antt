@@ -166,7 +166,7 @@ quit_ends : (rest : List ℕ) → begins is_name_byte rest ≡ false → begins 
 quit_ends [] h = refl
 quit_ends (b ∷ rest) h = ap (λ (k : Kind). goes_on k b) quit_kind ∙ word_goes_on b ∙ h
 
--- what stands behind the gap, as pieces see it
+-- what stands after the gap, as pieces see it
 seen : List ℕ → Bool
 seen u = bytes_eq (folded (take 4 u)) (codes "QUIT") && split.is_blank (drop 4 u)
 

@@ -11,7 +11,7 @@ use Rattle.lb_tok.specs.declared.token.Token.{Token}
 use Rattle.lb_tok.specs.declared.token.Span.{Span}
 use Rattle.lb_tok.specs.declared.token.Tokens.{Tokens}
 use Rattle.lb_tok.specs.Lexing.{LexedFrom, Lexed}
-use Rattle.lb_tok.specs.Syntax.{Reads}
+use Rattle.lb_tok.specs.Syntax.{IsTextOf}
 use Rattle.lb_agree.proofs.Passed.{inside_passes, gap_passed, token_passed}
 
 -- the text from an offset on, of which tokens were found up to a byte or to the end
@@ -93,5 +93,5 @@ no_end text found at h e k = go (begins 59 (drop at text)) refl
         let in_text = within found.tokens found.spans at 0 text (subst (λ (o : Option ℕ). LexedFrom 0 text found.tokens found.spans o) e h.0) in
         absurd (omega (arith, none, far, in_text, k))
 
-pub read_whole : (text : List ℕ) (s : Stmt) → Reads text s → statement_len text ≡ length text
+pub read_whole : (text : List ℕ) (s : Stmt) → IsTextOf text s → statement_len text ≡ length text
 read_whole text s r = whole text r.found r.lexed r.read.0

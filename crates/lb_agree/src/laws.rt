@@ -5,7 +5,7 @@ ghost use Rattle.lb_split.specs.Lexing.{begins, statement_len, is_blank, is_quit
 ghost use Rattle.lb_tok.specs.declared.token.Tokens.{Tokens};
 ghost use Rattle.lb_tok.specs.Lexing.{Lexed};
 ghost use Rattle.lb_tok.specs.Spelled.{AreTokens};
-ghost use Rattle.lb_tok.specs.Syntax.{Reads};
+ghost use Rattle.lb_tok.specs.Syntax.{IsTextOf};
 ghost use Rattle.lb_agree.specs.Agreeing.{quit_token};
 
 /// Tokens read quotes and comments as pieces do.
@@ -22,7 +22,7 @@ pub fn pieces_and_tokens_agree()
 /// No `;` in a text that is read as a statement ends a statement: a script that has the text, and then a `;`, is not cut
 /// within it.
 pub fn a_statement_that_is_read_is_cut_nowhere()
-    ensures { (text : List ℕ) (s : Stmt) → Reads text s → statement_len text ≡ length text }
+    ensures { (text : List ℕ) (s : Stmt) → IsTextOf text s → statement_len text ≡ length text }
 {}
 
 /// A statement is blank exactly where it has no tokens.

@@ -4,7 +4,7 @@ use Rattle.std.specs.Str.{chars, encode_utf8_all}
 use Rattle.lb_base.specs.declared.value.Value.{Value}
 use Rattle.lb_base.specs.declared.value.Value.TheVariants.{Null, Int, Text}
 
--- `||`: a text so far and a further one; null with anything is null
+-- `||`: a text so far and a further one; null where one of them is no text
 abbrev pub concatenated : Value → Value → Value
 concatenated (Text a) (Text b) = Text (a ++ b)
 concatenated _ _ = Null

@@ -33,7 +33,7 @@ fn multiply(a: i64, b: i64) -> Result<Value, Fault>
     integer(i128::from(a) * i128::from(b))
 }
 
-/// The sum so far and a further part, which is subtracted where `minus`. Null where one of them is null.
+/// The sum so far and a further part, which is subtracted where `minus`. Null where one of them is no integer, as null.
 ///
 /// Errors: `Overflow` where the result leaves 64 bits.
 #[tactic(auto, unfolding(crate::specs::Arithmetic::sum_of))]
@@ -47,7 +47,7 @@ pub fn add_part(so_far: &Value, minus: bool, part: &Value) -> Result<Value, Faul
     }
 }
 
-/// The product so far and a further factor. Null where one of them is null.
+/// The product so far and a further factor. Null where one of them is no integer, as null.
 ///
 /// Errors: `Overflow` where the result leaves 64 bits.
 #[tactic(auto, unfolding(crate::specs::Arithmetic::product_of))]

@@ -5,7 +5,7 @@ ghost use Rattle.lb_base.specs.Texts.{concatenated};
 use crate::{NoMemory, Str, Value};
 use std::alloc::Global;
 
-/// The text so far and a further one joined. Null where one of them is null.
+/// The text so far and a further one joined. Null where one of them is no text, as null.
 pub fn concatenate(alloc: Global, so_far: &Value, more: &Value) -> Result<Value, NoMemory>
     ensures { IfOk result (λ v. v ≡ concatenated so_far.now more.now) }
 {

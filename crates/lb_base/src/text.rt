@@ -7,7 +7,7 @@ ghost use Rattle.lb_base.specs.Names.{IsFolded, is_name, is_name_byte, name_of};
 use std::alloc::{AllocError, Global};
 use std::marker::Model;
 
-/// Out of memory. The call that answers it has changed nothing.
+/// Out of memory. Each call says what it leaves then.
 pub type NoMemory = AllocError;
 
 /// A UTF-8 text, such as a literal or a canonical text. Contracts see its bytes.

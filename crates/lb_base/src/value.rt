@@ -8,7 +8,7 @@ use std::alloc::Global;
 
 /// The parts of a label, one for each component of its policy, in the policy's order, at most 16.
 /// In a SET or TREE component bit i stands for the element with number i, counted from 0 in the order of adding;
-/// in an ARRAY component a part is 0 for none, else the element's number plus 1.
+/// in an ARRAY component a part is 0 for none, else the element's number plus one.
 pub type Parts = ArrayVec<u64, 16>;
 
 /// A value of a column or an expression.

@@ -1,4 +1,4 @@
--- Texts behind blanks, one more.
+-- Words joined by blanks, and what one word more adds: for the loops that print groups and permissions.
 use Rattle.std.proofs.Common.{◌≡◌, ℕ, ◌+◌, ◌<◌, List, [], ◌∷◌, ◌++◌, take, length, get_or, refl, sym, ap, ◌∙◌, append_assoc}
 use Rattle.std.specs.Prelude.{codes}
 use Rattle.std.proofs.lemmas.List.{append-nil, take_more}
@@ -8,7 +8,7 @@ behind_more : (ts : List (List ℕ)) (t : List ℕ) → behind_blanks (ts ++ t �
 behind_more [] t = refl
 behind_more (u ∷ ts) t = ap (λ (r : List ℕ). codes " " ++ u ++ r) (behind_more ts t) ∙ sym (append_assoc (codes " " ++ u) (behind_blanks ts) (behind_blanks (t ∷ [])))
 
--- one name more behind those of a loop
+-- one name more after those of a loop
 pub names_more : (first now next : List ℕ) (names : List (List ℕ)) (i : ℕ) (name : List ℕ) → i < length names → name ≡ get_or names i name → now ≡ first ++ behind_blanks (take i names)
     → next ≡ now ++ behind_blanks (name ∷ []) → next ≡ first ++ behind_blanks (take (i + 1) names)
 names_more first now next names i name lt is so more =

@@ -1,4 +1,4 @@
--- The lines of a journal.
+-- The lines of a printed journal: how many entries it has, and one line for each.
 use Rattle.std.specs.Prelude.{ℕ, ◌+◌, List, [], ◌∷◌, ◌++◌, length, codes}
 use Rattle.std.specs.Fmt.{decimal}
 use Rattle.lb_model.specs.declared.entry.Entry.{Entry}
@@ -10,7 +10,7 @@ use Rattle.lb_block.specs.Parts.{behind_blanks}
 abbrev pub journal_text : ℕ → List ℕ
 journal_text count = line (codes "JOURNAL " ++ decimal count)
 
--- What stands behind an entry's place, where so many sessions were opened before it: of an Open its session's number, OPEN, the user and the
+-- What stands after an entry's place, where so many sessions were opened before it: of an Open its session's number, OPEN, the user and the
 -- groups; of a statement its session's number, its own number within the session, and its canonical text.
 abbrev pub entry_words : ℕ → Entry → List (List ℕ)
 entry_words opened (entries.Open user groups) = decimal opened ∷ codes "OPEN" ∷ user ∷ groups

@@ -6,7 +6,7 @@ abbrev pub separator : List ℕ → ℕ → List ℕ
 separator between zero = []
 separator between (suc n) = between
 
--- each text behind a blank
+-- each text after a blank
 abbrev pub behind_blanks : List (List ℕ) → List ℕ
 behind_blanks [] = []
 behind_blanks (t ∷ ts) = codes " " ++ t ++ behind_blanks ts

@@ -11,7 +11,7 @@ use std::alloc::Global;
 
 /// The block of an answer: a line with its place in the journal (or `-`), its mark and its reply, and a line for each row
 /// of a query. Days are written as yyyy-mm-dd; a label, or a day outside the years 0001 to 9999, would give an empty value.
-/// The only error is want of memory.
+/// The only error is out of memory.
 pub fn block(alloc: Global, answer: &Answer) -> Result<Str, NoMemory>
     ensures { IfOk result (λ t. t ≡ block_text answer.now) }
 {
@@ -25,7 +25,7 @@ pub fn block(alloc: Global, answer: &Answer) -> Result<Str, NoMemory>
 }
 
 /// The line of a section: the place in the journal of the entry that opened its session, counted from 0, the session's
-/// number, and its user. The only error is want of memory.
+/// number, and its user. The only error is out of memory.
 pub fn header(alloc: Global, place: u64, session: u32, user: &Name) -> Result<Str, NoMemory>
     ensures { IfOk result (λ t. t ≡ header_text place session user.now) }
 {
@@ -36,7 +36,7 @@ pub fn header(alloc: Global, place: u64, session: u32, user: &Name) -> Result<St
     Ok(Str::from_string(out))
 }
 
-/// The one line of a script that breaks the form at this line, counted from 1. The only error is want of memory.
+/// The one line of a script that breaks the form at this line, counted from 1. The only error is out of memory.
 pub fn bad_script(alloc: Global, line: u32) -> Result<Str, NoMemory>
     ensures { IfOk result (λ t. t ≡ bad_script_text line) }
 {

@@ -1,4 +1,4 @@
-// The lines of a journal.
+// Prints a journal: the line with the number of its entries, and the line of each entry.
 ghost use Rattle.std.specs.Prelude.{◌≡◌, ◌++◌, IfOk, OnOk, string_bytes};
 ghost use Rattle.lb_block.specs.Journal.{entry_text, entry_words, journal_text};
 ghost use Rattle.lb_block.specs.Parts.{behind_blanks};
@@ -8,7 +8,7 @@ use lb_base::{Name, NoMemory, Str};
 use lb_model::Entry;
 use std::alloc::Global;
 
-/// The first line of a journal: of how many entries the lines follow. The only error is want of memory.
+/// The first line of a journal, with the number of its entries. The only error is out of memory.
 pub fn journal(alloc: Global, entries: u64) -> Result<Str, NoMemory>
     ensures { IfOk result (λ t. t ≡ journal_text entries) }
 {
@@ -19,7 +19,7 @@ pub fn journal(alloc: Global, entries: u64) -> Result<Str, NoMemory>
 
 /// The line of the entry at a place of the journal, counted from 0, before which so many sessions were opened: the number
 /// of its session, and of an Open its user and groups, or of a statement its number within the session and its canonical
-/// text. The only error is want of memory.
+/// text. The only error is out of memory.
 pub fn entry(alloc: Global, place: u64, opened: u32, entry: &Entry) -> Result<Str, NoMemory>
     ensures { IfOk result (λ t. t ≡ entry_text place opened entry.now) }
 {
@@ -47,7 +47,7 @@ fn push_entry(out: &mut String, opened: u32, entry: &Entry) -> Result<(), NoMemo
     }
 }
 
-// Each name behind a blank.
+// Each name after a blank.
 fn push_each(out: &mut String, names: &[Name]) -> Result<(), NoMemory>
     ensures { OnOk result (string_bytes out.new ≡ string_bytes out.old ++ behind_blanks names.now) }
 {

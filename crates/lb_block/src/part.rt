@@ -16,7 +16,7 @@ pub fn push_separator(out: &mut String, between: &str, place: usize) -> Result<(
     }
 }
 
-/// A word behind a blank.
+/// A word after a blank.
 pub fn push_word(out: &mut String, word: &str) -> Result<(), NoMemory>
     ensures { OnOk result (string_bytes out.new ≡ string_bytes out.old ++ behind_blanks (word.now ∷ [])) }
 {
@@ -24,7 +24,7 @@ pub fn push_word(out: &mut String, word: &str) -> Result<(), NoMemory>
     out.push_str(word)
 }
 
-/// Two words, each behind a blank.
+/// Two words, each after a blank.
 pub fn push_words(out: &mut String, first: &str, second: &str) -> Result<(), NoMemory>
     ensures { OnOk result (string_bytes out.new ≡ string_bytes out.old ++ behind_blanks (first.now ∷ second.now ∷ [])) }
 {
@@ -32,7 +32,7 @@ pub fn push_words(out: &mut String, first: &str, second: &str) -> Result<(), NoM
     push_word(out, second)
 }
 
-/// A number behind a blank.
+/// A number after a blank.
 pub fn push_number(out: &mut String, n: u64) -> Result<(), NoMemory>
     ensures { OnOk result (string_bytes out.new ≡ string_bytes out.old ++ behind_blanks (decimal n ∷ [])) }
 {

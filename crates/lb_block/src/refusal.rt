@@ -1,10 +1,10 @@
-// The text of a refusal.
+// Prints a refusal: its number, its name and its fields. Each refusal has its own fields; all are matched here alone.
 ghost use Rattle.std.specs.Prelude.{◌≡◌, ◌++◌, OnOk, codes, string_bytes};
 ghost use Rattle.lb_model.specs.Out.{fields, joined_by, refusal_text, tried_text};
 ghost use Rattle.lb_block.specs.Parts.{behind_blanks};
 
 use crate::part::{push_number, push_separator, push_word, push_words};
-use crate::word::{flaw_word, limit_word, reason_word, right_word, rule_word};
+use crate::word::{flaw_word, limit_word, privilege_word, reason_word, rule_word};
 use lb_base::{Name, NoMemory};
 use lb_model::Refusal;
 
@@ -18,7 +18,7 @@ pub fn push_refusal(out: &mut String, refusal: &Refusal) -> Result<(), NoMemory>
     push_fields(out, refusal)
 }
 
-// Each field behind a blank.
+// Each field after a blank.
 fn push_fields(out: &mut String, refusal: &Refusal) -> Result<(), NoMemory>
     ensures { OnOk result (string_bytes out.new ≡ string_bytes out.old ++ behind_blanks (fields refusal.now)) }
 {
@@ -47,7 +47,7 @@ fn push_fields(out: &mut String, refusal: &Refusal) -> Result<(), NoMemory>
             push_number(out, u64::from(*width))
         }
         Refusal::BadTable(column, flaw) => push_words(out, column.as_str(), flaw_word(*flaw)),
-        Refusal::Privilege(right, table) => push_words(out, right_word(*right), table.as_str()),
+        Refusal::Privilege(right, table) => push_words(out, privilege_word(*right), table.as_str()),
         Refusal::RowWrite(component, rule) | Refusal::LabelWrite(component, rule) => {
             push_words(out, component.as_str(), rule_word(*rule))
         }

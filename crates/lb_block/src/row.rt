@@ -1,4 +1,4 @@
-// The rows of a reply.
+// Prints the rows of a query's reply, one line for each row.
 ghost use Rattle.std.specs.Prelude.{◌≡◌, ◌++◌, OnOk, codes, flat_map, map, string_bytes};
 ghost use Rattle.lb_model.specs.Out.{joined_by, row_line, value_text};
 

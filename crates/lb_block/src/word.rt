@@ -1,9 +1,9 @@
-// The words of an answer.
+// The fixed words of an answer: marks, verbs, privileges, rules and the names of refusals.
 ghost use Rattle.std.specs.Prelude.{◌≡◌};
-ghost use Rattle.lb_model.specs.Out.{flaw_text, limit_text, mark_text, reason_name, right_text, rule_text, verb_text};
+ghost use Rattle.lb_model.specs.Out.{flaw_text, limit_text, mark_text, reason_name, privilege_text, rule_text, verb_text};
 
 use lb_base::Rule;
-use lb_model::{Flaw, LimitOf, Mark, Refusal, Right, Verb};
+use lb_model::{Flaw, LimitOf, Mark, NeededPrivilege, Refusal, Verb};
 
 /// The mark of a plan, or `-`.
 pub fn mark_word(mark: Mark) -> &'static str
@@ -17,7 +17,7 @@ pub fn mark_word(mark: Mark) -> &'static str
     }
 }
 
-/// What a write did, with a blank behind it.
+/// What a write did, with a blank after it.
 pub fn verb_word(verb: Verb) -> &'static str
     ensures { result.now ≡ verb_text verb }
 {
@@ -63,16 +63,16 @@ pub fn reason_word(refusal: &Refusal) -> &'static str
     }
 }
 
-/// A right on a table.
-pub fn right_word(right: Right) -> &'static str
-    ensures { result.now ≡ right_text right }
+/// A privilege on a table.
+pub fn privilege_word(privilege: NeededPrivilege) -> &'static str
+    ensures { result.now ≡ privilege_text privilege }
 {
-    match right {
-        Right::Select => "SELECT",
-        Right::Insert => "INSERT",
-        Right::Update => "UPDATE",
-        Right::Delete => "DELETE",
-        Right::Control => "CONTROL",
+    match privilege {
+        NeededPrivilege::Select => "SELECT",
+        NeededPrivilege::Insert => "INSERT",
+        NeededPrivilege::Update => "UPDATE",
+        NeededPrivilege::Delete => "DELETE",
+        NeededPrivilege::Control => "CONTROL",
     }
 }
 

@@ -7,7 +7,7 @@ use Rattle.std.proofs.lemmas.List.Sums.{fold-append}
 use Rattle.std.proofs.lemmas.List.{take-append-le, length-append}
 use Rattle.lb_stmt.specs.declared.write.Stmt.{Stmt}
 use Rattle.lb_tok.specs.Canonical.{canonical}
-use Rattle.lb_tok.specs.Syntax.{IsReadable}
+use Rattle.lb_tok.specs.Syntax.{IsRepeatable}
 use Rattle.lb_read.proofs.Again.{spoken}
 use Rattle.lb_base.specs.Days.{IsDay}
 use Rattle.lb_model.specs.declared.entry.Entry.{Entry}
@@ -42,10 +42,10 @@ pub no_truth : (b : Bool) → b ≡ true → b ≡ false → ⊥
 no_truth true e h = absurd cc
 no_truth false e h = absurd cc
 
-pub stopped_unbuilt : (J : List Entry) (limit : ℕ) (stored : Stored) (user text : List ℕ) (s : Stmt) → IsReadable text s → IsUnbuilt stored.cat stored.tables user s → IsStopped J limit stored user text stops.NotYet
+pub stopped_unbuilt : (J : List Entry) (limit : ℕ) (stored : Stored) (user text : List ℕ) (s : Stmt) → IsRepeatable text s → IsUnbuilt stored.cat stored.tables user s → IsStopped J limit stored user text stops.NotYet
 stopped_unbuilt J limit stored user text s h e = (s, record { reads = h; unbuilt = e })
 
-pub stopped_full : (J : List Entry) (limit : ℕ) (stored : Stored) (user text : List ℕ) (s : Stmt) → Stands J limit stored → IsReadable text s → (IsUnbuilt stored.cat stored.tables user s → ⊥) → limit ≤ length J
+pub stopped_full : (J : List Entry) (limit : ℕ) (stored : Stored) (user text : List ℕ) (s : Stmt) → Stands J limit stored → IsRepeatable text s → (IsUnbuilt stored.cat stored.tables user s → ⊥) → limit ≤ length J
     → IsStopped J limit stored user text (stops.JournalFull limit)
 stopped_full J limit stored user text s stands h e le = (refl, (s, record { reads = h; built = e }), omega (arith, stands.within))
 
@@ -91,7 +91,7 @@ pub record Committed (J : List Entry) (limit : ℕ) (new : Stored) (session : Se
   pub stands : Stands (J ++ entries.Said p.said ∷ []) limit new
   pub session_of : IsSessionOf (J ++ entries.Said p.said ∷ []) (record session { said = session.said + 1 })
   pub own : p.said.session ≡ session.number
-  pub placed : (text : List ℕ) → IsReadable text p.stmt → Placed (J ++ entries.Said p.said ∷ []) session.user text p.said.day (length J, p.said) (record { place = Some (length J); mark = mark_of p.stmt; reply = r })
+  pub placed : (text : List ℕ) → IsRepeatable text p.stmt → Placed (J ++ entries.Said p.said ∷ []) session.user text p.said.day (length J, p.said) (record { place = Some (length J); mark = mark_of p.stmt; reply = r })
 
 pub committed : (J : List Entry) (limit : ℕ) (stored new : Stored) (session : Session) (p : Prepared) (r : Reply)
     → Stands J limit stored → IsSessionOf J session → IsReady J limit stored session p.said.day p → IsDay p.said.day → Did stored new session.user p.stmt r
@@ -106,7 +106,7 @@ committed J limit stored new session p r stands session_of ready today did =
     let said : d.text ≡ canonical p.stmt = ap (λ (x : Said). x.text) e in
     let S : State = stands.state in
     let speaks : Speaks d.text p.stmt = (spoken (canonical p.stmt) p.stmt ready.again.reads, sym said) in
-    let readable : IsReadable d.text p.stmt = subst (λ (t : List ℕ). IsReadable t p.stmt) (sym said) ready.again in
+    let readable : IsRepeatable d.text p.stmt = subst (λ (t : List ℕ). IsRepeatable t p.stmt) (sym said) ready.again in
     let opened : opened_by J d.session ≡ Some (d.user, d.groups) = rw (own, user, groups) session_of.opened in
     let counted : d.number ≡ said_by J d.session = rw (own, number) session_of.counted in
     let follows : FollowsSaid J d = record { stmt = p.stmt; speaks = speaks; readable = readable; day = today; opened = opened; counted = counted } in
@@ -152,7 +152,7 @@ committed J limit stored new session p r stands session_of ready today did =
 
 -- the same, said of the journal and the session as they stand afterwards
 pub added_of : (J K : List Entry) (limit : ℕ) (new : Stored) (session : Session) (text : List ℕ) (p : Prepared) (r : Reply) (a : Answer)
-    → Committed J limit new session p r → IsReadable text p.stmt → K ≡ J ++ entries.Said p.said ∷ [] → a ≡ record { place = Some (length J); mark = mark_of p.stmt; reply = r }
+    → Committed J limit new session p r → IsRepeatable text p.stmt → K ≡ J ++ entries.Said p.said ∷ [] → a ≡ record { place = Some (length J); mark = mark_of p.stmt; reply = r }
     → Added J K session (record session { said = session.said + 1 }) text p.said.day a
 added_of J K limit new session text p r a h reads k e = record {
   said = p.said;
@@ -180,8 +180,8 @@ pub executed_added : (J K : List Entry) (limit : ℕ) (session now : Session) (t
 executed_added J K limit session now text day a place e h = subst (λ (p : Option ℕ). ExecutedAt p J K limit session now text day a) (sym e) h
 
 -- a statement was prepared from the text and committed: that executes the text, on the day of the statement
-pub executed_by : (J K : List Entry) (limit : ℕ) (stored : Stored) (session now : Session) (text : List ℕ) (day : ℤ) (p : Prepared) (a : Answer) → IsReady J limit stored session day p → IsReadable text p.stmt → a.place ≡ Some (length J)
-    → ((t : List ℕ) → IsReadable t p.stmt → Added J K session now t p.said.day a) → Executed J K limit session now text day a
+pub executed_by : (J K : List Entry) (limit : ℕ) (stored : Stored) (session now : Session) (text : List ℕ) (day : ℤ) (p : Prepared) (a : Answer) → IsReady J limit stored session day p → IsRepeatable text p.stmt → a.place ≡ Some (length J)
+    → ((t : List ℕ) → IsRepeatable t p.stmt → Added J K session now t p.said.day a) → Executed J K limit session now text day a
 executed_by J K limit stored session now text day p a ready reads place added =
     let today : p.said.day ≡ day = ap (λ (d : Said). d.day) ready.said in
     executed_added J K limit session now text day a (length J) place (subst (λ (d : ℤ). Added J K session now text d a) today (added text reads))

@@ -114,7 +114,7 @@ looping_on first b book all i s g0 g1 g2 w0 w1 w2 f0 f1 f2 h more r stands count
       later = omega (arith, h.later, le);
     }
 
--- the sections before one, it, those behind it, and others behind all of them
+-- the sections before one, it, those after it, and others after all of them
 joined : (done front rest behind : List Section) (s : Section) → (done ++ front) ++ s ∷ (rest ++ behind) ≡ done ++ ((front ++ s ∷ rest) ++ behind)
 joined done front rest behind s = append_assoc done front (s ∷ (rest ++ behind)) ∙ ap (λ (ss : List Section). done ++ ss) (sym (append_assoc front (s ∷ rest) behind))
 

@@ -1,4 +1,5 @@
--- What a whole run means.
+-- What a whole run promises, status by status. `Ends` is the clause of the top call; the rest of the file is what it
+-- is made of.
 use Rattle.std.specs.Prelude.{ℕ, ℤ, ◌≡◌, ◌⊎◌, List, [], flat_map, Option, Ok, Err}
 use Rattle.std.specs.Io.KnownBytes.{Appends}
 use Rattle.lb_wire.specs.Told.{Took, AppendsPart, GrewBy}

@@ -4,7 +4,7 @@ use Rattle.lb_stmt.specs.declared.write.Stmt.{Stmt}
 use Rattle.lb_tok.specs.declared.lex.ReadFault.{ReadFault}
 use Rattle.lb_tok.specs.declared.lex.ReadFault.TheVariants as faults
 use Rattle.lb_tok.specs.Canonical.{canonical}
-use Rattle.lb_tok.specs.Syntax.{IsReadable, IsSyntaxAt}
+use Rattle.lb_tok.specs.Syntax.{IsRepeatable, IsSyntaxAt}
 use Rattle.lb_model.specs.declared.entry.Entry.{Entry}
 use Rattle.lb_model.specs.declared.reply.Reply.{Reply}
 use Rattle.lb_model.specs.declared.reply.Reply.TheVariants as replies
@@ -26,7 +26,7 @@ stop_of faults.NoMemory = stops.NoMemory
 -- The statement can be read from its canonical text and is built, its rows are there, its entry is that of the session's next statement, and
 -- there is room for it.
 pub record IsReady (J : List Entry) (limit : ℕ) (stored : Stored) (session : Session) (day : ℤ) (p : Prepared) : Type 0 where
-  pub again : IsReadable (canonical p.stmt) p.stmt
+  pub again : IsRepeatable (canonical p.stmt) p.stmt
   pub built : IsUnbuilt stored.cat stored.tables session.user p.stmt → ⊥
   pub rows : p.rows ≡ rows_given p.stmt
   pub said : p.said ≡ record { session = session.number; number = session.said; user = session.user; groups = session.groups; day = day; text = canonical p.stmt }
@@ -45,7 +45,7 @@ stop_reply (stops.Syntax at) = replies.Refused (refusals.Syntax at)
 stop_reply stops.NotYet = replies.Refused refusals.NotYet
 stop_reply (stops.JournalFull n) = replies.Refused (refusals.JournalFull n)
 
--- the statement was run: what it leaves stands, and the reply is the reference's, or of a query want of memory
+-- the statement was run: what it leaves stands, and the reply is the reference's, or, of a query, NOMEMORY
 pub record Did (old new : Stored) (user : List ℕ) (stmt : Stmt) (r : Reply) : Type 0 where
   pub cat : (groups : List (List ℕ)) (day : ℤ) → new.cat ≡ (outcome old.cat old.tables user groups day stmt).cat
   pub tables : (groups : List (List ℕ)) (day : ℤ) → new.tables ≡ (outcome old.cat old.tables user groups day stmt).tables

@@ -79,7 +79,7 @@ pub record ShutLoops (limit : ℕ) (texts : List (List ℕ)) (written written_no
 abbrev pub session_section : Session → List (List ℕ) → Section
 session_section s texts = record { user = s.user; groups = s.groups; texts = texts }
 
--- The session that was opened behind the entries of I has answered these texts, and the text of that was written.
+-- The session that was opened after the entries of I has answered these texts, and the text of that was written.
 pub record SessionProgress (I J : List Entry) (limit : ℕ) (s : Session) (texts : List (List ℕ)) (o : Outside) : Type 0 where
   pub days : List ℤ
   pub answers : List Answer
@@ -124,13 +124,13 @@ pub record Progress (J : List Entry) (limit : ℕ) (done : List Section) (o : Ou
   pub clock : GrewBy o.given o.given_now (days_of results)
   pub bytes : Appends o.written o.written_now (out limit done results)
 
--- wherever a run stands at these entries, these sections are run behind those before
+-- wherever a run stands at these entries, these sections are run after those before
 abbrev pub WrittenAfter : List Entry → List Entry → ℕ → List Section → Outside → Type 0
 WrittenAfter J K limit sections o =
     (done : List Section) (given : Option (List ℤ)) (written : Option (List ℕ)) → Progress J limit done (outside_of given o.given written o.written)
     → Progress K limit (done ++ sections) (outside_of given o.given_now written o.written_now)
 
--- wherever a run stands at these entries, it is cut short in these sections, also with others behind them
+-- wherever a run stands at these entries, it is cut short in these sections, also with others after them
 abbrev pub CutAfter : List Entry → ℕ → List Section → Outside → Type 0
 CutAfter J limit sections o =
     (done behind : List Section) (given : Option (List ℤ)) (written : Option (List ℕ)) → Progress J limit done (outside_of given o.given written o.written)

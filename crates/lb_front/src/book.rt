@@ -1,7 +1,7 @@
 // The journal of a run, its sessions, and the one call by which a session's statement is run.
 ghost use Rattle.std.specs.Prelude.{◌≡◌, ◌<◌, ◌^◌, ℕ, List, [], length, IfOk, IfErr, OnOk, OnErr, Some};
 ghost use Rattle.lb_base.specs.Days.{IsDay};
-ghost use Rattle.lb_tok.specs.Syntax.{IsReadable};
+ghost use Rattle.lb_tok.specs.Syntax.{IsRepeatable};
 ghost use Rattle.lb_model.specs.declared.entry.Entry.TheVariants as entries;
 ghost use Rattle.lb_model.specs.Answer.{is_query as reads_only};
 ghost use Rattle.lb_model.specs.Journal.{opens};
@@ -131,7 +131,7 @@ impl Book {
         text: &[u8],
     ) -> Result<Prepared, Stop>
         requires stands { Stands self.now.journal.items self.now.limit self.now.store }
-        ensures read { IfOk result (λ p. IsReadable text.now p.stmt) }
+        ensures read { IfOk result (λ p. IsRepeatable text.now p.stmt) }
         ensures ready { IfOk result (λ p. IsReady self.now.journal.items self.now.limit self.now.store session.now day p) }
         ensures stopped { IfErr result (λ s. IsStopped self.now.journal.items self.now.limit self.now.store session.now.user text.now s) }
     {
@@ -159,7 +159,7 @@ impl Book {
         requires session_of { IsSessionOf self.old.journal.items session.old }
         requires ready { IsReady self.old.journal.items self.old.limit self.old.store session.old prepared.said.day prepared }
         requires today { IsDay prepared.said.day }
-        ensures added { (text : List ℕ) → IsReadable text prepared.stmt → IfOk result (λ a. Added self.old.journal.items self.new.journal.items session.old session.new text prepared.said.day a) }
+        ensures added { (text : List ℕ) → IsRepeatable text prepared.stmt → IfOk result (λ a. Added self.old.journal.items self.new.journal.items session.old session.new text prepared.said.day a) }
         ensures place { IfOk result (λ a. a.place ≡ Some (length self.old.journal.items)) }
         ensures stands { OnOk result (Stands self.new.journal.items self.new.limit self.new.store) }
         ensures session_of { OnOk result (IsSessionOf self.new.journal.items session.new) }

@@ -1,4 +1,4 @@
-// Writing what a run says.
+// Writes the lines of a run: the line of a section, the block of an answer, the line of a broken script.
 ghost use Rattle.std.specs.Prelude.{◌≡◌, ◌≤◌, [], OnOk, OnErr, Err};
 ghost use Rattle.std.specs.Io.KnownBytes.{Appends};
 ghost use Rattle.lb_wire.specs.Causes.{Rose};

@@ -1,4 +1,4 @@
-// The top call.
+// The top call: reads the whole input, takes it apart into sections and runs them, and answers the status.
 ghost use Rattle.std.specs.Prelude.{◌≡◌, ◌<◌, ◌^◌, ◌∷◌, ◌↔◌, ◌⊎◌, ℕ, [], codes, IsTrue};
 ghost use Rattle.std.specs.Io.KnownBytes.{Appends};
 ghost use Rattle.lb_model.specs.Out.{bad_script_text};
@@ -21,7 +21,7 @@ use std::alloc::Global;
 const MOST_ENTRIES: u64 = 1_048_576;
 
 /// Runs the script of the source, and writes the line of each section and the block of each statement to the sink. The words are those of the command
-/// line behind the program's name; the one form is `run`.
+/// line after the program's name; the one form is `run`.
 pub fn run_alone<S: Source, K: Sink, C: Clock>(
     alloc: Global,
     words: &[Str],

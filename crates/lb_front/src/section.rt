@@ -1,4 +1,4 @@
-// The run of one section.
+// Runs one section: opens its session, and executes its statements one after the other.
 ghost use Rattle.std.specs.Prelude.{◌≡◌, ◌≤◌, map, OnOk, OnErr, Err};
 ghost use Rattle.lb_wire.specs.Causes.{Rose};
 ghost use Rattle.lb_model.specs.Journal.{opens};

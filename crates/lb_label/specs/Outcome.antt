@@ -3,7 +3,7 @@ use Rattle.std.specs.Prelude.{◌≡◌, Option, None, Some, Result, Ok, Err}
 use Rattle.lb_label.specs.declared.component.ElementFault.{ElementFault}
 use Rattle.lb_label.specs.declared.component.ElementFault.TheVariants.{TooMany, BadElement, Repeated, NoParent, NoMemory}
 
--- A fault is the first cause to refuse, or out of memory where there is no such cause.
+-- A fault is the first cause to refuse, or NoMemory where there is no such cause.
 abbrev pub IsFault : ElementFault → Option ElementFault → Type 0
 IsFault (TooMany most) cause = cause ≡ Some (TooMany most)
 IsFault BadElement cause = cause ≡ Some BadElement

@@ -1,4 +1,4 @@
--- The course of a run: which entries each statement, each session and the whole script put behind those before them. What is told of a journal
+-- The course of a run: which entries each statement, each session and the whole script put after those before them. What is told of a journal
 -- gives the course that led to it.
 use Rattle.std.proofs.Common.{Bool, true, false, cond, ◌≡◌, ◌⊎◌, inl, inr, ℕ, zero, suc, ◌+◌, ◌<◌, ◌≤◌, List, [], ◌∷◌, ◌++◌, length, take, flat_map, Option, Some, None, refl, sym, ap, subst, ◌∙◌, zero-add, arith}
 use Rattle.std.specs.Prelude.{ℤ, slice_get, ◌==◌}
@@ -24,7 +24,7 @@ use Rattle.lb_model.specs.Sections.{Section, SessionOpening, opened, full, Secti
 
 -- ---- the course of a run
 
--- behind the entries of P, an answer that adds none
+-- after the entries of P, an answer that adds none
 pub record AddsNone (P : List Entry) (limit : ℕ) (user text : List ℕ) (a : Answer) : Type 0 where
   pub place : a.place ≡ None
   pub mark : a.mark ≡ marks.Dash
@@ -32,7 +32,7 @@ pub record AddsNone (P : List Entry) (limit : ℕ) (user text : List ℕ) (a : A
   pub before : Replay P state
   pub cause : IsUnplaced P limit (length P) state user text a.reply
 
--- behind the entries of P, an answer that adds the entry of its statement
+-- after the entries of P, an answer that adds the entry of its statement
 pub record AddsEntry (P : List Entry) (limit number : ℕ) (user text : List ℕ) (day : ℤ) (a : Answer) (d : Said) : Type 0 where
   pub room : length P < limit
   pub place : a.place ≡ Some (length P)
@@ -55,7 +55,7 @@ Leads limit number user P (text ∷ texts) (day ∷ days) (a ∷ answers) Q =
     ⊎ ((d : Said) × AddsEntry P limit number user text day a d × Leads limit number user (P ++ entries.Said d ∷ []) texts days answers Q)
 Leads limit number user P _ _ _ Q = ⊥
 
--- the statements of a section do, behind the Open of its session where there is one
+-- the statements of a section do, after the Open of its session where there is one
 abbrev pub SectionLeads : ℕ → List Entry → Section → SessionOpening → List ℤ → List Answer → List Entry → Type 0
 SectionLeads limit P s (opened place number) days answers Q =
     (place ≡ length P) × (number ≡ opens P) × (length P < limit) × Leads limit number s.user (P ++ entries.Open s.user s.groups ∷ []) s.texts days answers Q

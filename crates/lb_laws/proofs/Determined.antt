@@ -48,7 +48,7 @@ result_is o p opening days answers =
 joined : {A : Type 0} {a b : A} {xs ys : List A} → a ≡ b → xs ≡ ys → a ∷ xs ≡ b ∷ ys
 joined first rest = cc
 
--- ---- want of memory
+-- ---- out of memory
 
 both_or_none : (p q : Option ℕ) (r s : Reply) → shortage_at p r ≡ shortage_at q s
     → ((r ≡ replies.NoMemory) × (s ≡ replies.NoMemory) × (is_some p ≡ is_some q)) ⊎ ((r ≡ replies.NoMemory → ⊥) × (s ≡ replies.NoMemory → ⊥))
@@ -84,7 +84,7 @@ unplaced_one W P limit user text a b same h i =
     ] in
     answer_is a b (h.place ∙ sym i.place) (h.mark ∙ sym i.mark) reply
 
--- a statement that has a cause other than want of memory to get no entry can't get one
+-- a statement that gets no entry for another cause than NOMEMORY can't get one
 no_room : (W : ReaderLaws) (P : List Entry) (limit : ℕ) (S : State) (user text : List ℕ) (r : Reply) (s : Stmt)
     → length P < limit → (r ≡ replies.NoMemory → ⊥) → IsBuilt S.cat S.tables user text s → IsUnplaced P limit (length P) S user text r → ⊥
 no_room W P limit S user text r s lt m built (inl h) = m h

@@ -3,15 +3,15 @@ use Rattle.std.proofs.Common.{◌≡◌, ℕ, List, inl, inr, subst, sym, ◌∙
 use Rattle.lb_stmt.specs.declared.write.Stmt.{Stmt}
 use Rattle.lb_tok.specs.Canonical.{canonical}
 use Rattle.lb_tok.specs.Spelled.{IsSpoken}
-use Rattle.lb_tok.specs.Syntax.{Reads, GoesWrong, IsBeyond, IsReadable, IsSyntaxAt}
+use Rattle.lb_tok.specs.Syntax.{IsTextOf, GoesWrong, IsBeyond, IsRepeatable, IsSyntaxAt}
 use Rattle.lb_model.specs.Catalog.{Cat, Tables}
 use Rattle.lb_model.specs.NotYet.{IsUnbuilt, IsNotYet, IsBuilt}
 
 -- Canonical texts tell statements apart; a text is read as one statement at most, or goes wrong at one byte, and never both.
 pub record ReaderLaws : Type 0 where
   pub apart : (s t : Stmt) → IsSpoken s → IsSpoken t → canonical s ≡ canonical t → s ≡ t
-  pub one_statement : (text : List ℕ) (s t : Stmt) → Reads text s → Reads text t → s ≡ t
-  pub not_both : (text : List ℕ) (at : ℕ) (s : Stmt) → GoesWrong text at → Reads text s → ⊥
+  pub one_statement : (text : List ℕ) (s t : Stmt) → IsTextOf text s → IsTextOf text t → s ≡ t
+  pub not_both : (text : List ℕ) (at : ℕ) (s : Stmt) → GoesWrong text at → IsTextOf text s → ⊥
   pub one_byte : (text : List ℕ) (a b : ℕ) → GoesWrong text a → GoesWrong text b → a ≡ b
 
 -- a text is refused at one byte
@@ -22,7 +22,7 @@ one_syntax W text a b (inr g) (inl h) = absurd (W.not_both text b g.0 h g.1)
 one_syntax W text a b (inr g) (inr h) = g.3 ∙ sym h.3
 
 -- a text that is refused can't be read
-pub not_readable : (W : ReaderLaws) (text : List ℕ) (at : ℕ) (s : Stmt) → IsSyntaxAt text at → IsReadable text s → ⊥
+pub not_readable : (W : ReaderLaws) (text : List ℕ) (at : ℕ) (s : Stmt) → IsSyntaxAt text at → IsRepeatable text s → ⊥
 not_readable W text at s (inl g) r = W.not_both text at s g r.reads
 not_readable W text at s (inr g) r = r.again (subst (λ (t : Stmt). IsBeyond t) (W.one_statement text g.0 s g.1 r.reads) g.2)
 

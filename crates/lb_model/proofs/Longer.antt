@@ -138,7 +138,7 @@ mine_from_more s at (entries.Said d ∷ es) K =
 itself : (s : ℕ) → (s == s) ≡ true
 itself s = grind (arith, nat_tests)
 
--- the session's entries, once one of its statements is behind the journal
+-- the session's entries, once one of its statements is after the journal
 pub mine_more : (J : List Entry) (d : Said) (s : ℕ) → d.session ≡ s → mine (J ++ entries.Said d ∷ []) s ≡ mine J s ++ (length J, d) ∷ []
 mine_more J d s h =
     mine_from_more s 0 J (entries.Said d ∷ []) ∙ rw (zero-add (length J), h, itself s) refl

@@ -1,4 +1,4 @@
--- Sections that were told stay told as the journal grows behind them, and one section more.
+-- Sections that were told stay told as the journal grows after them, and one section more.
 use Rattle.std.proofs.Common.{◌≡◌, ℕ, zero, suc, ◌+◌, ◌<◌, ◌≤◌, List, [], ◌∷◌, ◌++◌, length, take, flat_map, Option, Some, None, refl, sym, ap, subst, ◌∙◌, append_assoc, arith}
 use Rattle.std.specs.Prelude.{ℤ, slice_get}
 use Rattle.std.proofs.lemmas.Option.{slice_get_within}
@@ -50,7 +50,7 @@ are_told_grown J K limit at (s ∷ ss) (o ∷ os) lt others h = (told_grown J K 
 are_told_grown J K limit at [] (o ∷ os) lt others h = absurd h
 are_told_grown J K limit at (s ∷ ss) [] lt others h = absurd h
 
--- entries behind the journal, none of them of its sessions, leave what was told
+-- entries after the journal, none of them of its sessions, leave what was told
 pub are_told_behind : (J K added : List Entry) (limit at : ℕ) (ss : List Section) (os : List SectionResult) → K ≡ J ++ added → length K ≤ limit → ((n : ℕ) → n < opens J → mine K n ≡ mine J n) → AreTold J limit at ss os → AreTold K limit at ss os
 are_told_behind J K [] limit at ss os e le others h = subst (λ (L : List Entry). AreTold L limit at ss os) (sym (e ∙ append-nil J)) h
 are_told_behind J K (x ∷ xs) limit at ss os e le others h =
@@ -95,7 +95,7 @@ count_join at (suc m) n =
 flat_more : {A B : Type 0} (f : A → List B) (xs : List A) (x : A) → flat_map f (xs ++ x ∷ []) ≡ flat_map f xs ++ f x
 flat_more f xs x = flat_map-append f xs (x ∷ []) ∙ ap (λ (t : List _). flat_map f xs ++ t) (append-nil (f x))
 
--- the sections so far, and one more behind them
+-- the sections so far, and one more after them
 pub record Sofar (J : List Entry) (limit : ℕ) (ss : List Section) (os : List SectionResult) : Type 0 where
   pub told : AreTold J limit 0 ss os
   pub counted : flat_map places_in os ≡ count_from 0 (length J)

@@ -1,4 +1,4 @@
--- A session told one statement after the other, behind the entries that stood before it.
+-- A session told one statement after the other, after the entries that stood before it.
 use Rattle.std.proofs.Common.{◌≡◌, inl, inr, ℕ, zero, suc, ◌+◌, ◌<◌, ◌≤◌, List, [], ◌∷◌, ◌++◌, length, take, Option, Some, None, refl, sym, ap, subst, ◌∙◌, append_assoc, zero-add, arith}
 use Rattle.std.specs.Prelude.{ℤ, slice_get}
 use Rattle.std.proofs.Math.Seq.{take-length}

@@ -115,7 +115,7 @@ abbrev pub is_enabled : Switch → Bool
 is_enabled switches.Enable = true
 is_enabled switches.Disable = false
 
--- the correlation name that is written behind the table, else the table's name
+-- the correlation name that is written after the table, else the table's name
 abbrev pub name_or : Option (List ℕ) → List ℕ → List ℕ
 name_or None n = n
 name_or (Some written) n = written

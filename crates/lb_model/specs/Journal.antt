@@ -3,7 +3,7 @@ use Rattle.std.specs.Prelude.{ℕ, zero, suc, ◌≡◌, ◌+◌, ◌==◌, Bool
 use Rattle.lb_stmt.specs.declared.write.Stmt.{Stmt}
 use Rattle.lb_tok.specs.Canonical.{canonical}
 use Rattle.lb_tok.specs.Spelled.{IsSpoken}
-use Rattle.lb_tok.specs.Syntax.{IsReadable}
+use Rattle.lb_tok.specs.Syntax.{IsRepeatable}
 use Rattle.lb_base.specs.Days.{IsDay}
 use Rattle.lb_model.specs.declared.entry.Said.{Said}
 use Rattle.lb_model.specs.declared.entry.Entry.{Entry}
@@ -42,12 +42,12 @@ said_by J s = count_by (is_said_by s) J
 pub record FollowsSaid (J : List Entry) (d : Said) : Type 0 where
   pub stmt : Stmt
   pub speaks : Speaks d.text stmt
-  pub readable : IsReadable d.text stmt
+  pub readable : IsRepeatable d.text stmt
   pub day : IsDay d.day
   pub opened : opened_by J d.session ≡ Some (d.user, d.groups)
   pub counted : d.number ≡ said_by J d.session
 
--- the entry may stand behind these
+-- the entry may stand after these
 abbrev pub Follows : List Entry → Entry → Type 0
 Follows J (entries.Open user groups) = Unit {0}
 Follows J (entries.Said d) = FollowsSaid J d

@@ -8,7 +8,7 @@ use Rattle.lb_base.specs.declared.key.Ty.TheVariants as types
 use Rattle.lb_stmt.specs.declared.write.Stmt.{Stmt}
 use Rattle.lb_stmt.specs.declared.write.Stmt.TheVariants as stmts
 use Rattle.lb_stmt.specs.declared.change.Change.TheVariants as changes
-use Rattle.lb_tok.specs.Syntax.{IsReadable}
+use Rattle.lb_tok.specs.Syntax.{IsRepeatable}
 use Rattle.lb_model.specs.Small.{IsSmall}
 use Rattle.lb_model.specs.declared.catalog.ColumnRec.{ColumnRec}
 use Rattle.lb_model.specs.declared.catalog.TableRec.{TableRec}
@@ -56,10 +56,10 @@ IsUnbuilt C T user s = (IsSmall s → ⊥) ⊎ ((user ≡ codes "SECADMIN") → 
 
 -- the text can be read as this statement, which is not built yet
 pub record IsNotYet (C : Cat) (T : Tables) (user text : List ℕ) (s : Stmt) : Type 0 where
-  pub reads : IsReadable text s
+  pub reads : IsRepeatable text s
   pub unbuilt : IsUnbuilt C T user s
 
 -- the text can be read as this statement, which is built
 pub record IsBuilt (C : Cat) (T : Tables) (user text : List ℕ) (s : Stmt) : Type 0 where
-  pub reads : IsReadable text s
+  pub reads : IsRepeatable text s
   pub built : IsUnbuilt C T user s → ⊥

@@ -1,4 +1,4 @@
--- The number of each refusal.
+-- The number of each refusal, as replies print it. A number stays the same when refusals come or go.
 use Rattle.std.specs.Prelude.{ℕ}
 use Rattle.lb_model.specs.declared.refusal.Refusal.{Refusal}
 use Rattle.lb_model.specs.declared.refusal.Refusal.TheVariants.{Syntax, Unknown, Exists, Types, Privilege, NotSecadm, ColumnRead, ColumnWrite, RowWrite, LabelWrite, NoWriteLabel, RowPermission, MaskedSource, MaskGroup, DuplicateKey, Overflow, ManyRows, InUse, BadLabel, GrantMismatch, Limit, JournalFull, NullValue, TooWide, BadSource, BadTable, NotYet}
@@ -8,7 +8,7 @@ refusal_number (Syntax at) = 1
 refusal_number (Unknown name) = 2
 refusal_number (Exists name) = 3
 refusal_number (Types at) = 4
-refusal_number (Privilege right table) = 5
+refusal_number (Privilege needed table) = 5
 refusal_number NotSecadm = 6
 refusal_number (ColumnRead column component rule) = 7
 refusal_number (ColumnWrite column component rule) = 8

@@ -20,8 +20,8 @@ use Rattle.lb_model.specs.declared.refusal.LimitOf.{LimitOf}
 use Rattle.lb_model.specs.declared.refusal.LimitOf.TheVariants as limits
 use Rattle.lb_model.specs.declared.refusal.Refusal.{Refusal}
 use Rattle.lb_model.specs.declared.refusal.Refusal.TheVariants as refusals
-use Rattle.lb_model.specs.declared.refusal.Right.{Right}
-use Rattle.lb_model.specs.declared.refusal.Right.TheVariants as rights
+use Rattle.lb_model.specs.declared.refusal.NeededPrivilege.{NeededPrivilege}
+use Rattle.lb_model.specs.declared.refusal.NeededPrivilege.TheVariants as needed
 use Rattle.lb_model.specs.Numbers.{refusal_number}
 
 abbrev pub line : List ℕ → List ℕ
@@ -61,12 +61,12 @@ abbrev pub tried_text : List (List ℕ) → List ℕ
 tried_text [] = codes "DEFAULT"
 tried_text (n ∷ ns) = joined_by (codes ",") (n ∷ ns)
 
-abbrev pub right_text : Right → List ℕ
-right_text rights.Select = codes "SELECT"
-right_text rights.Insert = codes "INSERT"
-right_text rights.Update = codes "UPDATE"
-right_text rights.Delete = codes "DELETE"
-right_text rights.Control = codes "CONTROL"
+abbrev pub privilege_text : NeededPrivilege → List ℕ
+privilege_text needed.Select = codes "SELECT"
+privilege_text needed.Insert = codes "INSERT"
+privilege_text needed.Update = codes "UPDATE"
+privilege_text needed.Delete = codes "DELETE"
+privilege_text needed.Control = codes "CONTROL"
 
 -- the rules of DB2LBACRULES, by the names that exemptions give them
 abbrev pub rule_text : Rule → List ℕ
@@ -129,7 +129,7 @@ fields (refusals.Syntax at) = decimal at ∷ []
 fields (refusals.Unknown n) = n ∷ []
 fields (refusals.Exists n) = n ∷ []
 fields (refusals.Types at) = decimal at ∷ []
-fields (refusals.Privilege r t) = right_text r ∷ t ∷ []
+fields (refusals.Privilege r t) = privilege_text r ∷ t ∷ []
 fields refusals.NotSecadm = []
 fields (refusals.ColumnRead c k r) = c ∷ k ∷ rule_text r ∷ []
 fields (refusals.ColumnWrite c k r) = c ∷ k ∷ rule_text r ∷ []

@@ -1,7 +1,7 @@
 -- What the sections of a script are told, one after the other, of one journal.
 use Rattle.std.specs.Prelude.{ℕ, ℤ, ◌≡◌, ◌⊎◌, ◌+◌, ◌≤◌, List, [], ◌∷◌, ◌++◌, take, length, slice_get, flat_map, Option, None, Some}
 use Rattle.lb_stmt.specs.declared.write.Stmt.{Stmt}
-use Rattle.lb_tok.specs.Syntax.{IsReadable, IsSyntaxAt}
+use Rattle.lb_tok.specs.Syntax.{IsRepeatable, IsSyntaxAt}
 use Rattle.lb_model.specs.declared.entry.Entry.{Entry}
 use Rattle.lb_model.specs.declared.entry.Entry.TheVariants as entries
 use Rattle.lb_model.specs.declared.reply.Answer.{Answer}
@@ -35,7 +35,7 @@ abbrev pub IsShut : ℕ → List ℕ → Reply → Type 0
 IsShut limit text reply =
     (reply ≡ replies.NoMemory)
     ⊎ ((byte : ℕ) × (reply ≡ replies.Refused (refusals.Syntax byte)) × IsSyntaxAt text byte)
-    ⊎ ((reply ≡ replies.Refused (refusals.JournalFull limit)) × ((s : Stmt) × IsReadable text s))
+    ⊎ ((reply ≡ replies.Refused (refusals.JournalFull limit)) × ((s : Stmt) × IsRepeatable text s))
 
 abbrev pub AreShut : ℕ → List (List ℕ) → List Answer → Type 0
 AreShut limit [] [] = Unit {0}

@@ -1,4 +1,4 @@
--- What is told so far: within a session, and of one section behind others.
+-- What is told so far: within a session, and of one section after others.
 use Rattle.std.specs.Prelude.{ℕ, ℤ, ◌≡◌, ◌+◌, ◌<◌, List, [], ◌∷◌, ◌++◌, take, length}
 use Rattle.lb_model.specs.declared.entry.Entry.{Entry}
 use Rattle.lb_model.specs.declared.entry.Entry.TheVariants as entries
@@ -13,7 +13,7 @@ abbrev pub end_of : ℕ → List (ℕ × Said) → ℕ
 end_of at [] = at
 end_of at (e ∷ next) = end_of (e.0 + 1) next
 
--- Behind the entries of I stand the Open of a session and its own entries alone, which these answers show.
+-- After the entries of I stand the Open of a session and its own entries alone, which these answers show.
 pub record Telling (I J : List Entry) (limit number : ℕ) (user : List ℕ) (groups : List (List ℕ)) (texts : List (List ℕ)) (days : List ℤ) (answers : List Answer) : Type 0 where
   pub added : List Entry
   pub grown : J ≡ I ++ entries.Open user groups ∷ added
@@ -23,7 +23,7 @@ pub record Telling (I J : List Entry) (limit number : ℕ) (user : List ℕ) (gr
   pub behind : end_of (length I + 1) (mine J number) ≡ length J
   pub counted : length I ∷ places answers ≡ count_from (length I) (length added + 1)
 
--- The section was run behind the entries of I. It is told of J, which has its own entries behind those; they are the places that its lines show,
+-- The section was run after the entries of I. It is told of J, which has its own entries after those; they are the places that its lines show,
 -- and none is of an earlier session.
 pub record SectionJournaled (I J : List Entry) (limit : ℕ) (s : Section) (o : SectionResult) : Type 0 where
   pub added : List Entry

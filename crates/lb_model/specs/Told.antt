@@ -2,7 +2,7 @@
 use Rattle.std.specs.Prelude.{ℕ, zero, suc, ℤ, ◌≡◌, ◌⊎◌, ◌+◌, ◌≤◌, Bool, true, false, List, [], ◌∷◌, take, length, slice_get, Option, None, Some}
 use Rattle.lb_stmt.specs.declared.write.Stmt.{Stmt}
 use Rattle.lb_tok.specs.Canonical.{canonical}
-use Rattle.lb_tok.specs.Syntax.{IsReadable, IsSyntaxAt}
+use Rattle.lb_tok.specs.Syntax.{IsRepeatable, IsSyntaxAt}
 use Rattle.lb_model.specs.declared.entry.Said.{Said}
 use Rattle.lb_model.specs.declared.entry.Entry.{Entry}
 use Rattle.lb_model.specs.declared.entry.Entry.TheVariants as entries
@@ -26,7 +26,7 @@ abbrev pub mark_of : Stmt → Mark
 mark_of s = mark_if (is_change s)
 
 -- Of a statement that ran: its entry is the session's next one, at the answer's place, with its canonical text and its day;
--- it is built where the entries before that place stand; and the reply is that of the place, or of a query want of memory.
+-- it is built where the entries before that place stand; and the reply is that of the place, or, of a query, NOMEMORY.
 pub record Placed (J : List Entry) (user text : List ℕ) (day : ℤ) (next : ℕ × Said) (a : Answer) : Type 0 where
   pub place : a.place ≡ Some next.0
   pub there : slice_get J next.0 ≡ Some (entries.Said next.1)

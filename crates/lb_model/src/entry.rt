@@ -1,4 +1,4 @@
-// The entries of the journal.
+// The entries of the journal: the opening of a session, and a statement with its session, day and canonical text.
 use lb_base::{Name, Names, Str};
 
 /// A statement of a session.

@@ -10,5 +10,5 @@ mod reply;
 pub use catalog::{ColumnRec, PermissionRec, TableRec, TableVersion};
 pub use entry::{Entry, Said};
 pub use laws::{journal_has_a_replay, root_stays, statement_has_a_reply};
-pub use refusal::{Flaw, LimitOf, Refusal, Right};
+pub use refusal::{Flaw, LimitOf, NeededPrivilege, Refusal};
 pub use reply::{Answer, Mark, Reply, Verb};

@@ -1,12 +1,12 @@
-// Why statements are refused.
+// Why statements are refused: every refusal of the language, with the fields that its reply shows.
 ghost use Rattle.std.specs.Prelude.{◌≡◌};
 ghost use Rattle.lb_model.specs.Numbers.{refusal_number};
 
 use lb_base::{Names, Rule, Str};
 
-/// A right on a table that a session lacks.
+/// A privilege on a table that a session lacks.
 #[derive(Clone, Copy, Debug, PartialEq, Eq)]
-pub enum Right {
+pub enum NeededPrivilege {
     Select,
     Insert,
     Update,
@@ -54,8 +54,8 @@ pub enum Refusal {
     Exists(Str),
     /// The kinds of the operands don't fit the node with this number.
     Types(u32),
-    /// The session lacks a right on the table.
-    Privilege(Right, Str),
+    /// The session lacks a privilege on the table.
+    Privilege(NeededPrivilege, Str),
     /// The session has no SECADM authority.
     NotSecadm,
     /// A label rule blocks reading the column: the component and the rule (LBAC rule set: DB2LBACRULES).

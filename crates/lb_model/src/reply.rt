@@ -1,4 +1,4 @@
-// Replies and answers.
+// Replies and answers: what a statement is answered, with its place in the journal and its mark.
 use crate::refusal::Refusal;
 use lb_base::RowList;
 

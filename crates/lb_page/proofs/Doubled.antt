@@ -1,4 +1,4 @@
--- Quotes doubled in parts.
+-- Doubling the quotes of a text is doubling those of its parts: for the loop that prints a text part by part.
 use Rattle.std.proofs.Common.{Bool, true, false, cond, ◌≡◌, ℕ, List, [], ◌∷◌, ◌++◌, refl, sym, ap, ◌∙◌, append_assoc, arith, ◌+◌, ◌/◌, ◌%◌, ◌≤◌, ltb, lit≤}
 use Rattle.std.proofs.lemmas.Bool.Decides.{nat_tests}
 use lib.Utf8.{encode, next}

@@ -193,7 +193,7 @@ pub ordered : (xs : List SortKey) → (xs ≡ [] → ⊥) → order_pieces xs �
 ordered [] h = absurd (h refl)
 ordered (x ∷ xs) h = refl
 
--- ---- expressions of several parts, laid one behind the other
+-- ---- expressions of several parts, laid one after the other
 
 then : (l a b : Layout) (ps qs : List Piece) → a ≡ laid l ps → b ≡ laid a qs → b ≡ laid l (ps ++ qs)
 then l a b ps qs h k = k ∙ ap (λ (x : Layout). laid x qs) h ∙ sym (laid-append l ps qs)

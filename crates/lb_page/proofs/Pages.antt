@@ -28,7 +28,7 @@ piece_laid l t one two body f c o p e hc ho hb h k =
     let whole : two ≡ t ++ (gap f (begins_closing p) ++ piece_text p) = rw (k, h, hc, hb) (append_assoc t (gap f c) body) in
     (rw (whole, ho) refl) ∙ ap (λ (m : Layout). lay m p) e
 
--- texts one behind the other
+-- texts one after the other
 pub two_behind : (t one two a b : List ℕ) → one ≡ t ++ a → two ≡ one ++ b → two ≡ t ++ (a ++ b)
 two_behind t one two a b h k = k ∙ ap (λ (u : List ℕ). u ++ b) h ∙ append_assoc t a b
 

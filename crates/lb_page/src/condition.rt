@@ -1,4 +1,4 @@
-// Conditions.
+// Prints conditions, with parentheses exactly where a part holds together less tightly than its place asks.
 #![tactic(auto, using(crate::proofs::Rules::conditions))]
 
 ghost use Rattle.std.specs.Prelude.{◌≡◌, OnOk, map};
@@ -122,7 +122,7 @@ fn subquery(page: &mut Page, inner: &Query) -> Result<(), NoMemory>
     page.mark(Kind::Close)
 }
 
-/// Lays the word and the condition behind it, where there is one.
+/// Lays the word and the condition after it, where there is one.
 #[cycle(prints)]
 pub fn cond_clause(page: &mut Page, kind: Kind, part: &Option<Boxed<Cond>>) -> Result<(), NoMemory>
     ensures { OnOk result (page.new ≡ laid page.old (clause kind (option_of cond_pieces part.now))) }

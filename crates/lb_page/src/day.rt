@@ -1,11 +1,11 @@
-// Days as they are written.
+// Prints a day as yyyy-mm-dd.
 ghost use Rattle.std.specs.Prelude.{◌≡◌, ◌+◌, ◌++◌, ◌∷◌, [], ◌<◌, OnOk, string_bytes};
 ghost use Rattle.lb_tok.specs.Dates.{date_text, day_text, two};
 
 use lb_base::{NoMemory, civil};
 
 /// A day as yyyy-mm-dd, in days since 1970-01-01, goes to the end of `out`. A number that is no day of the years 0001
-/// to 9999 gives nothing. The only error is want of memory.
+/// to 9999 gives nothing. The only error is out of memory.
 pub fn push_date(out: &mut String, day: i32) -> Result<(), NoMemory>
     ensures { OnOk result (string_bytes out.new ≡ string_bytes out.old ++ date_text day) }
 {

@@ -1,4 +1,4 @@
-// Expressions.
+// Prints expressions, with parentheses exactly where a part holds together less tightly than its place asks.
 #![tactic(auto, using(crate::proofs::Rules::exprs))]
 
 ghost use Rattle.std.specs.Prelude.{◌≡◌, OnOk, map};
@@ -143,7 +143,7 @@ pub fn expr(page: &mut Page, expr: &Expr) -> Result<(), NoMemory>
     }
 }
 
-// The name of the aggregate and its `(`, with DISTINCT behind it where it is meant.
+// The name of the aggregate and its `(`, with DISTINCT after it where it is meant.
 fn aggregate_opening(page: &mut Page, by: Aggregate) -> Result<(), NoMemory>
     ensures { OnOk result (page.new ≡ laid page.old (aggregate_front by)) }
 {

@@ -1,5 +1,5 @@
 //! The page on which a text is laid out piece by piece, and the queries, conditions and expressions on it. The only error
-//! is want of memory.
+//! is out of memory.
 #![tactic(auto)]
 
 mod condition;

@@ -46,7 +46,7 @@ pub fn tab(page: &mut Page, tab: &Tab) -> Result<(), NoMemory>
     alias(page, &tab.correlation)
 }
 
-/// Lays a column, behind its correlation name where one is given.
+/// Lays a column, after its correlation name where one is given.
 pub fn column(page: &mut Page, column: &Column) -> Result<(), NoMemory>
     ensures { OnOk result (page.new ≡ laid page.old (column_pieces column.now)) }
 {
@@ -78,7 +78,7 @@ pub fn texts(page: &mut Page, texts: &[Str]) -> Result<(), NoMemory>
     Ok(())
 }
 
-/// Lays text literals, each behind a comma.
+/// Lays text literals, each after a comma.
 pub fn more_texts(page: &mut Page, texts: &[Str]) -> Result<(), NoMemory>
     ensures { OnOk result (page.new ≡ laid page.old (behind Kind.Comma (map text_pieces texts.now))) }
 {

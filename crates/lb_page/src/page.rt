@@ -13,8 +13,8 @@ use lb_tok::Kind;
 use std::alloc::Global;
 use std::marker::Model;
 
-/// A text that grows by pieces. A blank stands before a piece, but none at the beginning, behind `( [ {` and before `, ) ] }`.
-/// The only error of its methods is want of memory; the page then may hold a part of what was to be laid on it.
+/// A text that grows by pieces. A blank stands before a piece, but none at the beginning, after `( [ {` and before `, ) ] }`.
+/// The only error of its methods is out of memory; the page then may hold a part of what was to be laid on it.
 #[derive(Debug, Drop)]
 pub struct Page {
     text: String,
@@ -93,7 +93,7 @@ impl Page {
         Ok(())
     }
 
-    /// Lays a name with `.*` behind it.
+    /// Lays a name with `.*` after it.
     pub fn all_of(&mut self, name: &Name) -> Result<(), NoMemory>
         ensures { OnOk result (self.new ≡ lay self.old (all_of_piece name.now)) }
     {
@@ -149,7 +149,7 @@ fn closes(kind: Kind) -> bool
         || kind.is(Kind::RightBrace)
 }
 
-// Whether no blank stands behind the symbol.
+// Whether no blank stands after the symbol.
 #[tactic(auto, unfolding(lb_tok::specs::Kinds::has))]
 fn opens(kind: Kind) -> bool
     ensures { result ≡ has openings kind }
@@ -173,7 +173,7 @@ fn push_int(out: &mut String, n: i64) -> Result<(), NoMemory>
     write!(out, "{n}")
 }
 
-/// A text between single quotes, with each quote inside it twice, goes to the end of `out`. The only error is want of memory.
+/// A text between single quotes, with each quote inside it twice, goes to the end of `out`. The only error is out of memory.
 pub fn push_quoted(out: &mut String, text: &str) -> Result<(), NoMemory>
     ensures { OnOk result (string_bytes out.new ≡ string_bytes out.old ++ quoted text.now) }
 {

@@ -1,4 +1,4 @@
-// Row permissions and column masks.
+// Prints the statements on row permissions and column masks.
 #![tactic(auto, using(lb_page::proofs::Rules::laying))]
 
 ghost use Rattle.std.specs.Prelude.{◌≡◌, OnOk};

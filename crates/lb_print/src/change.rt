@@ -1,4 +1,4 @@
-// Statements that change the catalogue.
+// Prints a statement that changes the catalogue: chooses the printer of its kind.
 #![tactic(auto, using(lb_page::proofs::Rules::laying))]
 
 ghost use Rattle.std.specs.Prelude.{◌≡◌, OnOk};
@@ -7,8 +7,8 @@ ghost use Rattle.lb_tok.specs.Spacing.{laid};
 
 use crate::access::{create_mask, create_permission, switch_mask, switch_permission};
 use crate::grant::{
-    grant_exemption, grant_label, grant_rights, grant_role, grant_secadm, revoke_exemption,
-    revoke_label, revoke_rights, revoke_role, revoke_secadm,
+    grant_exemption, grant_label, grant_privileges, grant_role, grant_secadm, revoke_exemption,
+    revoke_label, revoke_privileges, revoke_role, revoke_secadm,
 };
 use crate::keyword::named;
 use crate::label::{create_component, create_label, create_policy, drop_component, drop_label};
@@ -54,7 +54,11 @@ pub fn change(page: &mut Page, change: &Change) -> Result<(), NoMemory>
         Change::RevokeRole(role, user) => revoke_role(page, role, user),
         Change::GrantSecadm(user) => grant_secadm(page, user),
         Change::RevokeSecadm(user) => revoke_secadm(page, user),
-        Change::GrantPrivileges(list, table, grantee) => grant_rights(page, list, table, grantee),
-        Change::RevokePrivileges(list, table, grantee) => revoke_rights(page, list, table, grantee),
+        Change::GrantPrivileges(list, table, grantee) => grant_privileges(
+            page, list, table, grantee,
+        ),
+        Change::RevokePrivileges(list, table, grantee) => revoke_privileges(
+            page, list, table, grantee,
+        ),
     }
 }

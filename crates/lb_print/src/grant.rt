@@ -1,8 +1,8 @@
-// GRANT and REVOKE.
+// Prints GRANT and REVOKE.
 #![tactic(auto, using(lb_page::proofs::Rules::laying))]
 
 ghost use Rattle.std.specs.Prelude.{◌≡◌, OnOk, map};
-ghost use Rattle.lb_tok.specs.ChangePieces.{access_pieces, change_pieces, exemption_pieces, grantee_pieces, right_pieces, rights_pieces, rule_pieces};
+ghost use Rattle.lb_tok.specs.ChangePieces.{access_pieces, change_pieces, exemption_pieces, grantee_pieces, privilege_pieces, privileges_pieces, rule_pieces};
 ghost use Rattle.lb_tok.specs.QueryPieces.{listed};
 ghost use Rattle.lb_tok.specs.Spacing.{laid};
 
@@ -130,8 +130,8 @@ pub fn revoke_secadm(page: &mut Page, user: &Name) -> Result<(), NoMemory>
     with_user(page, &[Kind::From], user)
 }
 
-fn rights(page: &mut Page, list: &[Privilege]) -> Result<(), NoMemory>
-    ensures { OnOk result (page.new ≡ laid page.old (listed (map right_pieces list.now))) }
+fn privileges(page: &mut Page, list: &[Privilege]) -> Result<(), NoMemory>
+    ensures { OnOk result (page.new ≡ laid page.old (listed (map privilege_pieces list.now))) }
 {
     for (place, part) in list.iter().enumerate() {
         separator(page, Kind::Comma, place)?;
@@ -140,10 +140,10 @@ fn rights(page: &mut Page, list: &[Privilege]) -> Result<(), NoMemory>
     Ok(())
 }
 
-fn rights_on(page: &mut Page, list: &[Privilege], table: &Name) -> Result<(), NoMemory>
-    ensures { OnOk result (page.new ≡ laid page.old (rights_pieces list.now table.now)) }
+fn privileges_on(page: &mut Page, list: &[Privilege], table: &Name) -> Result<(), NoMemory>
+    ensures { OnOk result (page.new ≡ laid page.old (privileges_pieces list.now table.now)) }
 {
-    rights(page, list)?;
+    privileges(page, list)?;
     named(page, &[Kind::On], table)
 }
 
@@ -157,7 +157,7 @@ fn to_grantee(page: &mut Page, grantee: &Grantee) -> Result<(), NoMemory>
 }
 
 /// Lays GRANT of privileges on a table.
-pub fn grant_rights(
+pub fn grant_privileges(
     page: &mut Page,
     list: &Items<Privilege>,
     table: &Name,
@@ -166,13 +166,13 @@ pub fn grant_rights(
     ensures { OnOk result (page.new ≡ laid page.old (change_pieces (Change.GrantPrivileges list.now table.now grantee.now))) }
 {
     page.mark(Kind::Grant)?;
-    rights_on(page, list.as_slice(), table)?;
+    privileges_on(page, list.as_slice(), table)?;
     page.mark(Kind::To)?;
     to_grantee(page, grantee)
 }
 
 /// Lays REVOKE of privileges on a table.
-pub fn revoke_rights(
+pub fn revoke_privileges(
     page: &mut Page,
     list: &Items<Privilege>,
     table: &Name,
@@ -181,7 +181,7 @@ pub fn revoke_rights(
     ensures { OnOk result (page.new ≡ laid page.old (change_pieces (Change.RevokePrivileges list.now table.now grantee.now))) }
 {
     page.mark(Kind::Revoke)?;
-    rights_on(page, list.as_slice(), table)?;
+    privileges_on(page, list.as_slice(), table)?;
     page.mark(Kind::From)?;
     to_grantee(page, grantee)
 }

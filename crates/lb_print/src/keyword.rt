@@ -1,4 +1,4 @@
-// Keywords, and the names behind them.
+// Keywords, and the names after them.
 #![tactic(auto, using(lb_page::proofs::Rules::laying))]
 
 ghost use Rattle.std.specs.Prelude.{◌≡◌, ◌∷◌, [], ◌++◌, OnOk, map};
@@ -11,7 +11,7 @@ use lb_page::Page;
 use lb_stmt::{LabelName, Switch};
 use lb_tok::Kind;
 
-/// Lays keywords and symbols one behind the other.
+/// Lays keywords and symbols one after the other.
 pub fn words(page: &mut Page, kinds: &[Kind]) -> Result<(), NoMemory>
     ensures { OnOk result (page.new ≡ laid page.old (map mark_piece kinds.now)) }
 {

@@ -1,4 +1,4 @@
-// Statements.
+// Prints any statement: the public call, `canonical`.
 #![tactic(auto, using(lb_page::proofs::Rules::laying))]
 
 ghost use Rattle.std.specs.Prelude.{◌≡◌, OnOk, IfOk};
@@ -12,7 +12,7 @@ use lb_page::{Page, select};
 use lb_stmt::Stmt;
 use std::alloc::Global;
 
-/// The canonical text of a statement. The only error is want of memory.
+/// The canonical text of a statement. The only error is out of memory.
 #[tactic(auto, using(lb_page::proofs::Rules::laying), unfolding(lb_tok::specs::Canonical::canonical))]
 pub fn canonical(alloc: Global, stmt: &Stmt) -> Result<Str, NoMemory>
     ensures { IfOk result (λ t. t ≡ canonical_text stmt.now) }

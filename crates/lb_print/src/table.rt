@@ -1,4 +1,4 @@
-// CREATE TABLE and ALTER TABLE.
+// Prints CREATE TABLE and ALTER TABLE.
 #![tactic(auto, using(lb_page::proofs::Rules::laying))]
 
 ghost use Rattle.std.specs.Prelude.{◌≡◌, [], OnOk, map};

@@ -1,7 +1,7 @@
 // The keywords that stand for what a change holds.
 
 ghost use Rattle.std.specs.Prelude.{◌≡◌};
-ghost use Rattle.lb_tok.specs.ChangePieces.{switch_kind, access_kind, activate_kind, control_kind, right_kind, write_option_kind};
+ghost use Rattle.lb_tok.specs.ChangePieces.{switch_kind, access_kind, activate_kind, control_kind, privilege_kind, write_option_kind};
 
 use lb_stmt::{Access, ControlOf, Privilege, Switch, WriteOption};
 use lb_tok::Kind;
@@ -60,7 +60,7 @@ pub fn access(access: Access) -> Kind
 
 /// The word of a privilege.
 pub fn right(right: Privilege) -> Kind
-    ensures { result ≡ right_kind right }
+    ensures { result ≡ privilege_kind right }
 {
     match right {
         Privilege::Select => Kind::Select,

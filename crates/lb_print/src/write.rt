@@ -1,4 +1,4 @@
-// INSERT, UPDATE and DELETE.
+// Prints INSERT, UPDATE and DELETE.
 #![tactic(auto, using(lb_page::proofs::Rules::laying))]
 
 ghost use Rattle.std.specs.Prelude.{◌≡◌, OnOk, map};

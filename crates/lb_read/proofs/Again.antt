@@ -1,4 +1,4 @@
--- Canonical text, read again.
+-- A canonical text that is read is read as its own statement. The laws of the crate on canonical texts rest on it.
 use Rattle.std.proofs.Common.{inl, inr, ◌≡◌, ℕ, List, [], ◌∷◌, ◌++◌, Bool, true, false, Option, Some, None, refl, sym, ap, subst, ◌∙◌, arith}
 use Rattle.std.specs.Prelude.{IsUtf8}
 use Rattle.lb_stmt.specs.declared.write.Stmt.{Stmt}
@@ -11,7 +11,7 @@ use Rattle.lb_tok.specs.Lexing.{Lexed, LexedFrom}
 use Rattle.lb_tok.specs.Limit.{passed, walk_on, walk}
 use Rattle.lb_tok.specs.Refusals.{TooDeep, GoesNoFurther, IsRefusedAt}
 use Rattle.lb_tok.specs.Spelled.{IsSpoken}
-use Rattle.lb_tok.specs.Syntax.{Reads, GoesWrong, IsBeyond}
+use Rattle.lb_tok.specs.Syntax.{IsTextOf, GoesWrong, IsBeyond}
 use Rattle.lb_tok.proofs.Spoken.{canonical_lexes, canonical_is_spelled}
 use Rattle.lb_tok.proofs.Texts.{one_lexing}
 use Rattle.lb_readt.proofs.Joined.{walk-append}
@@ -19,7 +19,7 @@ use Rattle.lb_readt.proofs.Languages.{nil}
 use Rattle.lb_read.proofs.Texts.{not_utf8}
 
 -- what is read is spoken
-pub spoken : (text : List ℕ) (s : Stmt) → Reads text s → IsSpoken s
+pub spoken : (text : List ℕ) (s : Stmt) → IsTextOf text s → IsSpoken s
 spoken text s r =
     let lexed : LexedFrom 0 text r.found.tokens r.found.spans None = subst (λ (o : Option ℕ). LexedFrom 0 text r.found.tokens r.found.spans o) r.read.0 r.lexed.0 in
     (text, (r.found.tokens, (r.found.spans, lexed), r.read.1))
@@ -36,7 +36,7 @@ none_is_some None x h k = absurd cc
 none_is_some (Some y) x h k = absurd cc
 
 -- a canonical text that is read goes beyond no limit
-pub not_beyond : (s t : Stmt) → IsSpoken s → Reads (canonical s) t → IsBeyond s → ⊥
+pub not_beyond : (s t : Stmt) → IsSpoken s → IsTextOf (canonical s) t → IsBeyond s → ⊥
 not_beyond s t h r (inl long) = absurd (omega (arith, long, r.short))
 not_beyond s t h r (inr deep) = none_is_some (walk (tokens_of s) 64) 64 deep (ap (λ (u : List Token). walk u 64) (sym (same s r.found h r.lexed).0) ∙ r.read.2)
 

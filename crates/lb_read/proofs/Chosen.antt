@@ -6,11 +6,11 @@ use Rattle.lb_tok.specs.declared.token.Tokens.{Tokens}
 use Rattle.lb_tok.specs.declared.lex.ReadFault.{ReadFault}
 use Rattle.lb_tok.specs.Form.{Lang}
 use Rattle.lb_tok.specs.Changes.{IsStmt}
-use Rattle.lb_tok.specs.Refusals.{IsRead, FaultSays}
+use Rattle.lb_tok.specs.Refusals.{IsSpelledWithin, FaultSays}
 use Rattle.lb_readt.specs.Readers.{heads}
 use Rattle.lb_readd.specs.Choosing.{definers, Decides}
 
-pub all_read : (b : Bool) (P : Lang Stmt) (found : Tokens) (r : Result Stmt ReadFault) → Decides b P → heads definers found.tokens ≡ b → IfOk r (λ s. IsRead P 64 found s) → IfOk r (λ s. IsRead IsStmt 64 found s)
+pub all_read : (b : Bool) (P : Lang Stmt) (found : Tokens) (r : Result Stmt ReadFault) → Decides b P → heads definers found.tokens ≡ b → IfOk r (λ s. IsSpelledWithin P 64 found s) → IfOk r (λ s. IsSpelledWithin IsStmt 64 found s)
 all_read b P found (Ok s) w e h = (w 64 found e).0 s h
 all_read b P found (Err f) w e h = h
 

@@ -3,3 +3,4 @@ pub mod Chosen
 pub mod First
 pub mod Texts
 pub mod Trees
+pub mod Within

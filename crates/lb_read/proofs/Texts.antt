@@ -12,8 +12,8 @@ use Rattle.lb_tok.specs.Kinds.{has, openers, closers}
 use Rattle.lb_tok.specs.Changes.{IsStmt}
 use Rattle.lb_tok.specs.Lexing.{Lexed}
 use Rattle.lb_tok.specs.Limit.{passed, walk_on, walk}
-use Rattle.lb_tok.specs.Refusals.{Spells, TooDeep, StandsAt, GoesNoFurther, IsRefusedAt, IsRead}
-use Rattle.lb_tok.specs.Syntax.{Reads, GoesWrong}
+use Rattle.lb_tok.specs.Refusals.{Spells, TooDeep, StandsAt, GoesNoFurther, IsRefusedAt, IsSpelledWithin}
+use Rattle.lb_tok.specs.Syntax.{IsTextOf, GoesWrong}
 use Rattle.lb_tok.proofs.Texts.{SameLexing, one_lexing}
 use Rattle.lb_readt.proofs.Joined.{walk-append}
 use Rattle.lb_readt.proofs.Languages.{nil}
@@ -39,7 +39,7 @@ too_deep front t rest d e w h = no_room (has closers t.kind) (has openers t.kind
 
 -- ---- what is read is not refused
 
-not_refused : (found : Tokens) (at : ℕ) (s : Stmt) → IsRefusedAt IsStmt 64 found at → IsRead IsStmt 64 found s → ⊥
+not_refused : (found : Tokens) (at : ℕ) (s : Stmt) → IsRefusedAt IsStmt 64 found at → IsSpelledWithin IsStmt 64 found s → ⊥
 not_refused found at s w r = go w.rest w.whole w.because
   where
     go : (rest : List Token) → found.tokens ≡ w.front ++ rest → GoesNoFurther IsStmt 64 found w.front rest → ⊥
@@ -48,11 +48,11 @@ not_refused found at s w r = go w.rest w.whole w.because
     go (t ∷ rest) e (inl n) = n rest s (subst (λ (u : List Token). Spells IsStmt u s) e r.1)
     go (t ∷ rest) e (inr d) = too_deep w.front t rest 64 64 d (ap (λ (u : List Token). walk u 64) (sym e) ∙ r.2)
 
-read_of : (f g : Tokens) (s : Stmt) → SameLexing f.tokens g.tokens f.spans g.spans f.stop g.stop → IsRead IsStmt 64 f s → IsRead IsStmt 64 g s
+read_of : (f g : Tokens) (s : Stmt) → SameLexing f.tokens g.tokens f.spans g.spans f.stop g.stop → IsSpelledWithin IsStmt 64 f s → IsSpelledWithin IsStmt 64 g s
 read_of f g s e r =
     (sym e.stops ∙ r.0, subst (λ (u : List Token). Spells IsStmt u s) e.tokens r.1, ap (λ (u : List Token). walk u 64) (sym e.tokens) ∙ r.2)
 
-pub not_both : (text : List ℕ) (at : ℕ) (s : Stmt) → GoesWrong text at → Reads text s → ⊥
+pub not_both : (text : List ℕ) (at : ℕ) (s : Stmt) → GoesWrong text at → IsTextOf text s → ⊥
 not_both text at s (inl p) r = absurd (omega (arith, p.0, r.short))
 not_both text at s (inr (inl p)) r =
     p.1.longest (length text) p.1.short (subst (λ (u : List ℕ). IsUtf8 u) (sym (take_all (length text) text (omega arith))) r.utf8)

@@ -1,13 +1,14 @@
-// The public call.
+// Reads a statement from its text: the tokens, and then the reader that the first token chooses.
 ghost use Rattle.std.specs.Prelude.{◌≡◌, length, IfOk, IfErr};
 ghost use Rattle.lb_tok.specs.Changes.{IsStmt};
-ghost use Rattle.lb_tok.specs.Refusals.{IsRead, FaultSays};
-ghost use Rattle.lb_tok.specs.Syntax.{Reads, FailsSo};
+ghost use Rattle.lb_tok.specs.Refusals.{IsSpelledWithin, FaultSays};
+ghost use Rattle.lb_tok.specs.Limit.{most_brackets};
+ghost use Rattle.lb_tok.specs.Syntax.{IsTextOf, FailsSo};
 ghost use Rattle.lb_readt.specs.Readers.{heads};
 ghost use Rattle.lb_readd.specs.Choosing.{definers};
 
 use lb_readd::definition;
-use lb_readq::query;
+use lb_readq::query_or_write;
 use lb_readt::next_is;
 use lb_stmt::Stmt;
 use lb_tok::{Kind, ReadFault, Token, Tokens, tokens};
@@ -19,9 +20,9 @@ use std::alloc::Global;
 /// Errors: `Syntax(at)` with the byte, from 0, at which the text goes wrong: 4096 where it is longer than that; else the
 /// first byte that is not UTF-8; else the beginning of the first token with which no statement goes on, or that opens a
 /// 65th bracket; else the byte that begins no token; else the text's length, where more must follow. `NoMemory` where
-/// memory is wanting. No text is both read and refused, and none is refused at two bytes: see the laws.
+/// memory runs out. No text is both read and refused, and none is refused at two bytes: see the laws.
 pub fn read(alloc: Global, text: &[u8]) -> Result<Stmt, ReadFault>
-    ensures read { IfOk result (Reads text.now) }
+    ensures read { IfOk result (IsTextOf text.now) }
     ensures refused { IfErr result (FailsSo text.now) }
 {
     let found = tokens(alloc, text)?;
@@ -31,13 +32,13 @@ pub fn read(alloc: Global, text: &[u8]) -> Result<Stmt, ReadFault>
 // The statement that the tokens spell: the first of them tells which kind it is.
 fn statement(alloc: Global, found: &Tokens) -> Result<Stmt, ReadFault>
     requires { length found.now.spans ≡ length found.now.tokens }
-    ensures read { IfOk result (λ s. IsRead IsStmt 64 found.now s) }
-    ensures refused { IfErr result (λ e. FaultSays IsStmt 64 found.now e) }
+    ensures read { IfOk result (λ s. IsSpelledWithin IsStmt most_brackets found.now s) }
+    ensures refused { IfErr result (λ e. FaultSays IsStmt most_brackets found.now e) }
 {
     if begins_definition(found.tokens.as_slice()) {
         definition(alloc, found)
     } else {
-        query(alloc, found)
+        query_or_write(alloc, found)
     }
 }
 

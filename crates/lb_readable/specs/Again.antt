@@ -4,16 +4,17 @@ use Rattle.lb_stmt.specs.declared.write.Stmt.{Stmt}
 use Rattle.lb_tok.specs.declared.lex.ReadFault.{ReadFault}
 use Rattle.lb_tok.specs.declared.lex.ReadFault.TheVariants as faults
 use Rattle.lb_tok.specs.Canonical.{canonical}
-use Rattle.lb_tok.specs.Syntax.{most_bytes, Reads, IsBeyond, IsReadable, IsSyntaxAt}
+use Rattle.lb_tok.specs.Limit.{most_statement_bytes}
+use Rattle.lb_tok.specs.Syntax.{IsTextOf, IsBeyond, IsRepeatable, IsSyntaxAt}
 use Rattle.lb_readable.specs.declared.statement.Readable.{Readable}
 
 -- the text is read as the statement, and its canonical text, which keeps both limits, is read as the same
-pub record IsReadableOf (text : List ℕ) (r : Readable) : Type 0 where
-  pub reads : IsReadable text r.stmt
+pub record HoldsStatementOf (text : List ℕ) (r : Readable) : Type 0 where
+  pub reads : IsRepeatable text r.stmt
   pub canonical_text : r.text ≡ canonical r.stmt
-  pub again : Reads r.text r.stmt
+  pub again : IsTextOf r.text r.stmt
 
--- why a text has no such statement: it is refused at that byte. Memory may always be wanting.
+-- why a text has no such statement: it is refused at that byte. Memory may always run out.
 abbrev pub IsRefusedSo : List ℕ → ReadFault → Type 0
 IsRefusedSo text faults.NoMemory = Unit {0}
 IsRefusedSo text (faults.Syntax at) = IsSyntaxAt text at
@@ -22,10 +23,10 @@ IsRefusedSo text (faults.Syntax at) = IsSyntaxAt text at
 pub record IsReadAgain (s : Stmt) (r : Readable) : Type 0 where
   pub same : r.stmt ≡ s
   pub canonical_text : r.text ≡ canonical s
-  pub reads : Reads (canonical s) s
+  pub reads : IsTextOf (canonical s) s
   pub within : IsBeyond s → ⊥
 
--- why a statement is not read from its canonical text: that goes beyond a limit. Memory may always be wanting.
+-- why a statement is not read from its canonical text: that goes beyond a limit. Memory may always run out.
 abbrev pub FailsAgain : Stmt → ReadFault → Type 0
 FailsAgain s faults.NoMemory = Unit {0}
-FailsAgain s (faults.Syntax at) = IsBeyond s × (at ≡ most_bytes)
+FailsAgain s (faults.Syntax at) = IsBeyond s × (at ≡ most_statement_bytes)

@@ -1,4 +1,4 @@
--- ALTER TABLE.
+-- The readers of ALTER TABLE are exact for its production.
 use Rattle.std.proofs.Common.{Bool, true, false, cond, ◌&&◌, ◌||◌, arith, inl, inr, ◌≡◌, ℕ, List, [], ◌∷◌, ◌++◌, Option, Some, None, refl, sym, ap, subst, ◌∙◌}
 use Rattle.std.specs.Prelude.{nat_le}
 use Rattle.std.proofs.lemmas.Bool.Decides.{nat_tests}
@@ -18,7 +18,7 @@ use Rattle.lb_tok.specs.Changes.{AfterNamed, IsPlainType, IsActivation, IsAdded,
 use Rattle.lb_reade.specs.Expressions.{Readers}
 use Rattle.lb_readt.proofs.Sets.{subset, within}
 use Rattle.lb_readt.proofs.Joined.{Within}
-use Rattle.lb_readt.proofs.Combined.{Reads, one_reads, give_reads, then_reads, same_reads, pick_reads, wide, made_reads, after_reads, means_reads, optional_reads}
+use Rattle.lb_readt.proofs.Combined.{IsReaderOf, one_reads, give_reads, then_reads, same_reads, pick_reads, wide, made_reads, after_reads, means_reads, optional_reads}
 use Rattle.lb_readt.proofs.Tokens.{name_token, name_reads}
 use Rattle.lb_reade.proofs.Expressions.{Ready}
 use Rattle.lb_readt.proofs.Languages.{nil, made_of}
@@ -28,13 +28,13 @@ use Rattle.lb_readd.proofs.Tables.{Width, width_reads, plain_type_reads}
 
 -- ---- activations
 
-activation_reads : {b : Bool} {d : ℕ} → Reads b d activation_at IsActivation false in_activation []
+activation_reads : {b : Bool} {d : ℕ} → IsReaderOf b d activation_at IsActivation false in_activation []
 unfolding activation_at activates_at control_of_at
 activation_reads = wide _ _ refl refl refl (then_reads (pick_reads (means_reads kinds.Activate true refl) (means_reads kinds.Deactivate false refl) refl) (λ a.
     then_reads (pick_reads (means_reads kinds.Row controls.Row refl) (means_reads kinds.Column controls.Column refl) refl) (λ c.
     after_reads kinds.Access refl (means_reads kinds.Control (record { activate = a; of = c }) refl)) refl) refl)
 
-acts_reads : {b : Bool} {d : ℕ} (t : List ℕ) → Reads b d (acts_at t) (IsActs t) false in_activation in_activation
+acts_reads : {b : Bool} {d : ℕ} (t : List ℕ) → IsReaderOf b d (acts_at t) (IsActs t) false in_activation in_activation
 unfolding acts_at
 acts_reads t = wide _ _ refl refl refl (then_reads activation_reads (λ a. made_reads (changes.Activate t a) (optional_reads activation_reads)) refl)
 
@@ -43,7 +43,7 @@ acts_reads t = wide _ _ refl refl refl (then_reads activation_reads (λ a. made_
 abbrev NewOn : List ℕ → List ℕ → Lang Change
 NewOn t c = Made (changes.AddColumn t c) IsPlainType
 
-new_reads : {b : Bool} {d : ℕ} {w : Readers} → Ready d w → (t c : List ℕ) → Reads b d (new_column_on w t c) (NewOn t c) false plain_types []
+new_reads : {b : Bool} {d : ℕ} {w : Readers} → Ready d w → (t c : List ℕ) → IsReaderOf b d (new_column_on w t c) (NewOn t c) false plain_types []
 unfolding new_column_on
 new_reads r t c = made_reads (changes.AddColumn t c) (plain_type_reads r)
 
@@ -51,7 +51,7 @@ new_reads r t c = made_reads (changes.AddColumn t c) (plain_type_reads r)
 abbrev TypeWord : Lang (Option PlainType × Option (List ℕ))
 TypeWord = One plain_types (λ t. Some (type_of t.kind, name_in t.content))
 
-type_word_reads : {b : Bool} {d : ℕ} → Reads b d type_word_at TypeWord false plain_types []
+type_word_reads : {b : Bool} {d : ℕ} → IsReaderOf b d type_word_at TypeWord false plain_types []
 unfolding type_word_at has
 type_word_reads = one_reads (keyword_token kinds.Date) refl refl refl
 
@@ -61,7 +61,7 @@ others = from_to kinds.Count kinds.SecLabelToChar ++ from_to kinds.First kinds.W
 abbrev Other : Lang (List ℕ)
 Other = One others (λ t. name_in t.content)
 
-other_reads : {b : Bool} {d : ℕ} → Reads b d other_name_at Other false others []
+other_reads : {b : Bool} {d : ℕ} → IsReaderOf b d other_name_at Other false others []
 unfolding other_name_at has
 other_reads = one_reads name_token refl refl refl
 
@@ -70,7 +70,7 @@ abbrev Typed : List ℕ → List ℕ → Option PlainType → Lang Change
 Typed t c (Some y) = Nothing (changes.AddColumn t c y)
 Typed t c None = Made (changes.AddColumn t c) Width
 
-typed_reads : {b : Bool} {d : ℕ} {w : Readers} → Ready d w → (t c : List ℕ) (o : Option PlainType) → Reads b d (typed_on w t c o) (Typed t c o) true (only kinds.Open) []
+typed_reads : {b : Bool} {d : ℕ} {w : Readers} → Ready d w → (t c : List ℕ) (o : Option PlainType) → IsReaderOf b d (typed_on w t c o) (Typed t c o) true (only kinds.Open) []
 unfolding typed_on
 typed_reads r t c (Some y) = wide _ _ refl refl refl (give_reads (changes.AddColumn t c y))
 typed_reads r t c None = wide _ _ refl refl refl (made_reads (changes.AddColumn t c) (width_reads r))
@@ -82,7 +82,7 @@ TypeOn t c (y, None) = Typed t c y
 abbrev behind_type : Kinds
 behind_type = plain_types ++ only kinds.Open
 
-type_on_reads : {b : Bool} {d : ℕ} {w : Readers} → Ready d w → (t c : List ℕ) (p : Option PlainType × Option (List ℕ)) → Reads b d (type_word_on w t c p) (TypeOn t c p) true behind_type plain_types
+type_on_reads : {b : Bool} {d : ℕ} {w : Readers} → Ready d w → (t c : List ℕ) (p : Option PlainType × Option (List ℕ)) → IsReaderOf b d (type_word_on w t c p) (TypeOn t c p) true behind_type plain_types
 unfolding type_word_on
 type_on_reads r t c (y, Some n) = wide _ _ refl refl refl (pick_reads (new_reads r t n) (typed_reads r t c y) refl)
 type_on_reads r t c (y, None) = wide _ _ refl refl refl (typed_reads r t c y)
@@ -161,9 +161,9 @@ other_name k h e = by_number (number k) (shown _ h) (hidden _ e)
     by_number : (n : ℕ) → (nat_le 59 n && nat_le n 141) ≡ true → (nat_le 74 n && nat_le n 78) ≡ false → cond (nat_le 59 n && nat_le n 73) true (cond (nat_le 79 n && nat_le n 141) true false) ≡ true
     by_number n h e = joined _ _ (numbers n h e)
 
--- ---- ADD, behind COLUMN
+-- ---- ADD, after COLUMN
 
--- a word of a type, and what goes on behind it, spell a column of the type
+-- a word of a type, and what goes on after it, spell a column of the type
 to_typed : (t c : List ℕ) (s : Below) (u : Token) (b : List Token) (x : Change) (y : Option PlainType) → has plain_types u.kind ≡ true → type_of u.kind ≡ y → Typed t c y s b x → NewOn t c s (u ∷ b) x
 to_typed t c s u b x (Some y) h e p =
     let w : IsPlainType s (u ∷ []) y = simple u.kind y e s u refl in
@@ -190,7 +190,7 @@ to_behind t c s ts x (inl p) = go p.2 p.3 p.4
     go (y, Some n) w (inr q) = typed y (Some n) w q
     go (y, None) w q = typed y None w q
 
--- behind a word of a type the type may be all
+-- after a word of a type the type may be all
 typed_on_any : (t c : List ℕ) (s : Below) (b : List Token) (x : Change) (y : Option PlainType) (o : Option (List ℕ)) → Typed t c y s b x → TypeOn t c (y, o) s b x
 typed_on_any t c s b x y (Some n) p = inr p
 typed_on_any t c s b x y None p = p
@@ -215,18 +215,18 @@ of_behind t c s ts x (inr p) = let m = made_of (changes.AddColumn t c) IsPlainTy
     typed y e (inr (inr (inr (inl q)))) = begun kinds.Varchar None q.0 q.1 q.3 refl of_varchar (q.1, [], y, q.4, (refl, e), sym (nil q.1)) q.5
     typed y e (inr (inr (inr (inr q)))) = begun kinds.Date (Some plains.Date) q.0 q.1 q.3 refl of_date (q.4.0, e ∙ ap (λ (z : PlainType). changes.AddColumn t c z) q.4.1) q.5
 
-behind_reads : {b : Bool} {d : ℕ} {w : Readers} → Ready d w → (t c : List ℕ) → Reads b d (behind_column_at w t c) (BehindColumn t c) false names plain_types
+behind_reads : {b : Bool} {d : ℕ} {w : Readers} → Ready d w → (t c : List ℕ) → IsReaderOf b d (behind_column_at w t c) (BehindColumn t c) false names plain_types
 unfolding behind_column_at
 behind_reads r t c = wide _ _ refl refl refl (same_reads (BehindColumn t c) (to_behind t c) (of_behind t c) (pick_reads (then_reads type_word_reads (type_on_reads r t c) refl) (then_reads other_reads (new_reads r t) refl) refl))
 
 abbrev Policy : List ℕ → Lang Change
 Policy t = After kinds.Policy (Made (changes.AddPolicy t) IsName)
 
-policy_reads : {b : Bool} {d : ℕ} (t : List ℕ) → Reads b d (add_policy_at t) (Policy t) false (only kinds.Policy) []
+policy_reads : {b : Bool} {d : ℕ} (t : List ℕ) → IsReaderOf b d (add_policy_at t) (Policy t) false (only kinds.Policy) []
 unfolding add_policy_at
 policy_reads t = after_reads kinds.Policy refl (made_reads (changes.AddPolicy t) name_reads)
 
-added_on_reads : {b : Bool} {d : ℕ} {w : Readers} → Ready d w → (t : List ℕ) (p : (Bool × Bool) × List ℕ) → Reads b d (added_on w t p) (Chosen2 (Policy t) (Seq IsName (NewOn t)) (NewOn t) p) false names plain_types
+added_on_reads : {b : Bool} {d : ℕ} {w : Readers} → Ready d w → (t : List ℕ) (p : (Bool × Bool) × List ℕ) → IsReaderOf b d (added_on w t p) (Chosen2 (Policy t) (Seq IsName (NewOn t)) (NewOn t) p) false names plain_types
 unfolding added_on
 added_on_reads r t ((true, c), n) = wide _ _ refl refl refl (pick_reads (policy_reads t) (new_reads r t n) refl)
 added_on_reads r t ((false, true), n) = behind_reads r t n
@@ -243,7 +243,7 @@ of_added : (t : List ℕ) → Within (IsAdded t) (Added t)
 of_added t s ts x (inl p) = inl p
 of_added t s ts x (inr p) = inr (of_may kinds.Column (Seq IsName (NewOn t)) s ts x p)
 
-added_reads : {b : Bool} {d : ℕ} {w : Readers} → Ready d w → (t : List ℕ) → Reads b d (added_at w t) (IsAdded t) false names plain_types
+added_reads : {b : Bool} {d : ℕ} {w : Readers} → Ready d w → (t : List ℕ) → IsReaderOf b d (added_at w t) (IsAdded t) false names plain_types
 unfolding added_at
 added_reads r t = wide _ _ refl refl refl (same_reads (IsAdded t) (to_added t) (of_added t) (ahead2_reads kinds.Security (Policy t) kinds.Column (Seq IsName (NewOn t)) (NewOn t) refl refl refl (added_on_reads r t) refl))
 
@@ -255,35 +255,35 @@ Secure t c = After kinds.With (Made (changes.SecureColumn t c) IsName)
 abbrev Unsecure : List ℕ → List ℕ → Lang Change
 Unsecure t c = After kinds.Column (Means kinds.Security (changes.UnsecureColumn t c))
 
--- behind the column
+-- after the column
 abbrev AlteredOn : List ℕ → List ℕ → Lang Change
 AlteredOn t c = Either (AfterNamed kinds.Secured (Secure t c)) (AfterNamed kinds.Drop (Unsecure t c))
 
-secure_reads : {b : Bool} {d : ℕ} (t c : List ℕ) → Reads b d (secure_at t c) (Secure t c) false (only kinds.With) []
+secure_reads : {b : Bool} {d : ℕ} (t c : List ℕ) → IsReaderOf b d (secure_at t c) (Secure t c) false (only kinds.With) []
 unfolding secure_at
 secure_reads t c = after_reads kinds.With refl (made_reads (changes.SecureColumn t c) name_reads)
 
-unsecure_reads : {b : Bool} {d : ℕ} (t c : List ℕ) → Reads b d (unsecure_at t c) (Unsecure t c) false (only kinds.Column) []
+unsecure_reads : {b : Bool} {d : ℕ} (t c : List ℕ) → IsReaderOf b d (unsecure_at t c) (Unsecure t c) false (only kinds.Column) []
 unfolding unsecure_at
 unsecure_reads t c = after_reads kinds.Column refl (means_reads kinds.Security (changes.UnsecureColumn t c) refl)
 
 abbrev in_altered : Kinds
 in_altered = only kinds.Secured ++ only kinds.Drop
 
-altered_on_reads : {b : Bool} {d : ℕ} (t c : List ℕ) → Reads b d (altered_on t c) (AlteredOn t c) false in_altered []
+altered_on_reads : {b : Bool} {d : ℕ} (t c : List ℕ) → IsReaderOf b d (altered_on t c) (AlteredOn t c) false in_altered []
 unfolding altered_on
 altered_on_reads t c = wide _ _ refl refl refl (pick_reads (then_reads (named_reads kinds.Secured refl) (λ _. secure_reads t c) refl) (then_reads (named_reads kinds.Drop refl) (λ _. unsecure_reads t c) refl) refl)
 
 abbrev in_word : Kinds
 in_word = only kinds.With ++ only kinds.Column ++ in_altered
 
-word_on_reads : {b : Bool} {d : ℕ} (t c : List ℕ) (p : (Bool × Bool) × List ℕ) → Reads b d (altered_word_on t c p) (Chosen2 (Secure t c) (Unsecure t c) (AlteredOn t) p) false in_word []
+word_on_reads : {b : Bool} {d : ℕ} (t c : List ℕ) (p : (Bool × Bool) × List ℕ) → IsReaderOf b d (altered_word_on t c p) (Chosen2 (Secure t c) (Unsecure t c) (AlteredOn t) p) false in_word []
 unfolding altered_word_on
 word_on_reads t c ((true, o), n) = wide _ _ refl refl refl (pick_reads (secure_reads t c) (altered_on_reads t n) refl)
 word_on_reads t c ((false, true), n) = wide _ _ refl refl refl (pick_reads (unsecure_reads t c) (altered_on_reads t n) refl)
 word_on_reads t c ((false, false), n) = wide _ _ refl refl refl (altered_on_reads t n)
 
--- behind COLUMN, which may be the column
+-- after COLUMN, which may be the column
 abbrev ColumnWord : List ℕ → List ℕ → Lang Change
 ColumnWord t c = Ahead2 kinds.Secured (Secure t c) kinds.Drop (Unsecure t c) (AlteredOn t)
 
@@ -300,12 +300,12 @@ of_word t c s ts x (inl p) = inr (inr p)
 of_word t c s ts x (inr (inl p)) = inl p
 of_word t c s ts x (inr (inr p)) = inr (inl p)
 
-altered_column_on_reads : {b : Bool} {d : ℕ} (t : List ℕ) (p : Bool × List ℕ) → Reads b d (altered_column_on t p) (Chosen (Seq IsName (AlteredOn t)) (AlteredOn t) p) false names []
+altered_column_on_reads : {b : Bool} {d : ℕ} (t : List ℕ) (p : Bool × List ℕ) → IsReaderOf b d (altered_column_on t p) (Chosen (Seq IsName (AlteredOn t)) (AlteredOn t) p) false names []
 unfolding altered_column_on
 altered_column_on_reads t (true, n) = wide _ _ refl refl refl (same_reads (AlteredNamed t n) (to_word t n) (of_word t n) (ahead2_reads kinds.Secured (Secure t n) kinds.Drop (Unsecure t n) (AlteredOn t) refl refl refl (word_on_reads t n) refl))
 altered_column_on_reads t (false, n) = wide _ _ refl refl refl (altered_on_reads t n)
 
-altered_column_reads : {b : Bool} {d : ℕ} (t : List ℕ) → Reads b d (altered_column_at t) (IsAlteredColumn t) false names []
+altered_column_reads : {b : Bool} {d : ℕ} (t : List ℕ) → IsReaderOf b d (altered_column_at t) (IsAlteredColumn t) false names []
 unfolding altered_column_at
 altered_column_reads t = wide _ _ refl refl refl (same_reads (IsAlteredColumn t) (to_may kinds.Column (Seq IsName (AlteredOn t))) (of_may kinds.Column (Seq IsName (AlteredOn t))) (ahead_reads kinds.Column (Seq IsName (AlteredOn t)) (AlteredOn t) refl (altered_column_on_reads t) refl))
 
@@ -317,10 +317,10 @@ TableChange t = Either (After kinds.Add (IsAdded t)) (Either (After kinds.Alter 
 abbrev pub after_alter_table : Kinds
 after_alter_table = plain_types ++ in_activation
 
-table_change_reads : {b : Bool} {d : ℕ} {w : Readers} → Ready d w → (t : List ℕ) → Reads b d (table_change_on w t) (TableChange t) false (only kinds.Add ++ only kinds.Alter ++ in_activation) after_alter_table
+table_change_reads : {b : Bool} {d : ℕ} {w : Readers} → Ready d w → (t : List ℕ) → IsReaderOf b d (table_change_on w t) (TableChange t) false (only kinds.Add ++ only kinds.Alter ++ in_activation) after_alter_table
 unfolding table_change_on
 table_change_reads r t = wide _ _ refl refl refl (pick_reads (after_reads kinds.Add refl (added_reads r t)) (pick_reads (after_reads kinds.Alter refl (altered_column_reads t)) (acts_reads t) refl) refl)
 
-pub alter_table_reads : {b : Bool} {d : ℕ} {w : Readers} → Ready d w → Reads b d (alter_table_at w) IsAlterTable false (only kinds.Table) after_alter_table
+pub alter_table_reads : {b : Bool} {d : ℕ} {w : Readers} → Ready d w → IsReaderOf b d (alter_table_at w) IsAlterTable false (only kinds.Table) after_alter_table
 unfolding alter_table_at
 alter_table_reads r = wide _ _ refl refl refl (after_reads kinds.Table refl (then_reads name_reads (table_change_reads r) refl))

@@ -14,11 +14,11 @@ use Rattle.lb_readt.specs.Tokens.{name_at}
 use Rattle.lb_reade.specs.Expressions.{Readers, cond_at, case_at}
 use Rattle.lb_readq.specs.Queries.{tab_at}
 use Rattle.lb_readt.proofs.Joined.{SoundAt, Meets, via}
-use Rattle.lb_readt.proofs.Combined.{Reads}
+use Rattle.lb_readt.proofs.Combined.{IsReaderOf}
 use Rattle.lb_readd.specs.Defining.{controlled_at, rows_at, masked_at}
 
 -- what holds of a reader holds of one that answers the same
-pub like_reads : {b : Bool} {d : ℕ} {A : Type 0} {f : Reader A} {P : Lang A} {n : Bool} {F E : Kinds} (h : Reader A) → ((ts : List Token) → h ts ≡ f ts) → Reads b d f P n F E → Reads b d h P n F E
+pub like_reads : {b : Bool} {d : ℕ} {A : Type 0} {f : Reader A} {P : Lang A} {n : Bool} {F E : Kinds} (h : Reader A) → ((ts : List Token) → h ts ≡ f ts) → IsReaderOf b d f P n F E → IsReaderOf b d h P n F E
 like_reads {b} {d} {A} {f} {P} h e p =
     record {
       tongue = p.tongue;

@@ -1,4 +1,4 @@
--- The parts of a label: behind a comma a further element of the part, or a further part.
+-- The parts of a label: after a comma a further element of the part, or a further part.
 use Rattle.std.proofs.Common.{Bool, true, false, inl, inr, ◌≡◌, ℕ, List, [], ◌∷◌, ◌++◌, refl, sym, ap, subst, ◌∙◌, append_assoc}
 use Rattle.std.proofs.lemmas.List.{append-nil}
 use Rattle.lb_stmt.specs.declared.change.LabelPart.{LabelPart}
@@ -9,7 +9,7 @@ use Rattle.lb_tok.specs.Form.{Below, Lang, Seq, Either, Many, Word, After, Made,
 use Rattle.lb_tok.specs.Grammar.{IsName, IsText}
 use Rattle.lb_tok.specs.Changes.{IsTexts, IsPart}
 use Rattle.lb_readt.proofs.Joined.{Within}
-use Rattle.lb_readt.proofs.Combined.{Reads, then_reads, same_reads, pick_reads, wide, made_reads, after_reads, commas_reads}
+use Rattle.lb_readt.proofs.Combined.{IsReaderOf, then_reads, same_reads, pick_reads, wide, made_reads, after_reads, commas_reads}
 use Rattle.lb_readt.proofs.Tokens.{name_reads, text_reads}
 use Rattle.lb_readt.proofs.Languages.{nil, made_is, made_of}
 use Rattle.lb_readd.specs.Defining.{Next, part_at, piece_at, parts_from, parts_on, parts_at}
@@ -21,11 +21,11 @@ First = After kinds.Component (Seq IsName (λ c. Made (λ e. (c, e)) IsText))
 abbrev IsPiece : Lang Next
 IsPiece = Either (Made (λ e. inl e) IsText) (Made (λ p. inr p) First)
 
-first_reads : {b : Bool} {d : ℕ} → Reads b d part_at First false (only kinds.Component) []
+first_reads : {b : Bool} {d : ℕ} → IsReaderOf b d part_at First false (only kinds.Component) []
 unfolding part_at
 first_reads = after_reads kinds.Component refl (then_reads name_reads (λ c. made_reads (λ e. (c, e)) text_reads) refl)
 
-piece_reads : {b : Bool} {d : ℕ} → Reads b d piece_at IsPiece false (only kinds.Text ++ only kinds.Component) []
+piece_reads : {b : Bool} {d : ℕ} → IsReaderOf b d piece_at IsPiece false (only kinds.Text ++ only kinds.Component) []
 unfolding piece_at
 piece_reads = wide _ _ refl refl refl (pick_reads (made_reads (λ e. inl e) text_reads) (made_reads (λ p. inr p) first_reads) refl)
 
@@ -35,7 +35,7 @@ PartsOn p = Made (parts_from p.0 (p.1 ∷ [])) (Many (After kinds.Comma IsPiece)
 abbrev Pieces : Lang (List LabelPart)
 Pieces = Seq First PartsOn
 
-parts_on_reads : {b : Bool} {d : ℕ} (p : List ℕ × List ℕ) → Reads b d (parts_on p) (PartsOn p) true (only kinds.Comma) (only kinds.Comma)
+parts_on_reads : {b : Bool} {d : ℕ} (p : List ℕ × List ℕ) → IsReaderOf b d (parts_on p) (PartsOn p) true (only kinds.Comma) (only kinds.Comma)
 unfolding parts_on
 parts_on_reads p = wide _ _ refl refl refl (made_reads (parts_from p.0 (p.1 ∷ [])) (commas_reads piece_reads refl))
 
@@ -217,6 +217,6 @@ of_parts s ts v p =
     let k = of_texts q.es q.x.0 (q.x.1 ∷ []) s q.b p.1 m.0 q.more (of_more m.0 s p.1 m.1) in
     (q.a, q.b ++ p.1, q.x, q.first, (q.b ++ p.1, [], k.pieces, k.spelled, (refl, m.2 ∙ ap (λ (z : LabelPart). z ∷ m.0) q.value ∙ sym k.value), sym (nil (q.b ++ p.1))), p.5 ∙ ap (λ (u : List Token). u ++ p.1) q.whole ∙ append_assoc q.a q.b p.1)
 
-pub parts_reads : {b : Bool} {d : ℕ} → Reads b d parts_at (Listed IsPart) false (only kinds.Component) (only kinds.Comma)
+pub parts_reads : {b : Bool} {d : ℕ} → IsReaderOf b d parts_at (Listed IsPart) false (only kinds.Component) (only kinds.Comma)
 unfolding parts_at
 parts_reads = wide _ _ refl refl refl (same_reads (Listed IsPart) to_parts of_parts (then_reads first_reads parts_on_reads refl))

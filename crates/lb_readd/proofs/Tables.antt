@@ -18,7 +18,7 @@ use Rattle.lb_reade.specs.Expressions.{Readers, parens}
 use Rattle.lb_readq.specs.Queries.{readers}
 use Rattle.lb_readt.proofs.Joined.{Tongue, Within}
 use Rattle.lb_readt.proofs.Repeats.{bracket_exact, bracket_tongue, Inside}
-use Rattle.lb_readt.proofs.Combined.{Reads, plain_token, give_reads, then_reads, same_reads, pick_reads, many_reads, wide, made_reads, after_reads, means_reads, may_reads, optional_reads, listed_reads}
+use Rattle.lb_readt.proofs.Combined.{IsReaderOf, plain_token, give_reads, then_reads, same_reads, pick_reads, many_reads, wide, made_reads, after_reads, means_reads, may_reads, optional_reads, listed_reads}
 use Rattle.lb_readt.proofs.Tokens.{name_reads, int_reads}
 use Rattle.lb_reade.proofs.Expressions.{Ready, parens_reads}
 use Rattle.lb_readt.proofs.Languages.{nil, made_is, made_of}
@@ -31,11 +31,11 @@ use Rattle.lb_readg.proofs.Names.{Chosen, ahead_reads}
 abbrev pub Width : Lang PlainType
 Width = Made plains.Text (Parens IsInt)
 
-pub width_reads : {b : Bool} {d : ℕ} {w : Readers} → Ready d w → Reads b d (width_at w) Width false (only kinds.Open) []
+pub width_reads : {b : Bool} {d : ℕ} {w : Readers} → Ready d w → IsReaderOf b d (width_at w) Width false (only kinds.Open) []
 unfolding width_at
 width_reads r = made_reads plains.Text (parens_reads r (record { reads = λ b d l. int_reads }) refl)
 
-pub plain_type_reads : {b : Bool} {d : ℕ} {w : Readers} → Ready d w → Reads b d (plain_type_at w) IsPlainType false plain_types []
+pub plain_type_reads : {b : Bool} {d : ℕ} {w : Readers} → Ready d w → IsReaderOf b d (plain_type_at w) IsPlainType false plain_types []
 unfolding plain_type_at
 plain_type_reads r = wide _ _ refl refl refl (pick_reads (means_reads kinds.BigInt plains.Int refl)
     (pick_reads (means_reads kinds.Integer plains.Int refl)
@@ -47,31 +47,31 @@ plain_type_reads r = wide _ _ refl refl refl (pick_reads (means_reads kinds.BigI
 abbrev in_type : Kinds
 in_type = only kinds.Db2SecurityLabel ++ plain_types
 
-type_reads : {b : Bool} {d : ℕ} {w : Readers} → Ready d w → Reads b d (type_at w) IsType false in_type []
+type_reads : {b : Bool} {d : ℕ} {w : Readers} → Ready d w → IsReaderOf b d (type_at w) IsType false in_type []
 unfolding type_at
 type_reads r = wide _ _ refl refl refl (pick_reads (means_reads kinds.Db2SecurityLabel types.Label refl) (made_reads types.Plain (plain_type_reads r)) refl)
 
 -- ---- columns of a new table
 
-option_reads : {b : Bool} {d : ℕ} → Reads b d option_at IsOption false in_option []
+option_reads : {b : Bool} {d : ℕ} → IsReaderOf b d option_at IsOption false in_option []
 unfolding option_at
 option_reads = wide _ _ refl refl refl (pick_reads (after_reads kinds.Not refl (means_reads kinds.Null false refl)) (after_reads kinds.Primary refl (means_reads kinds.Key true refl)) refl)
 
 abbrev Options : Lang (Bool × Bool)
 Options = Made written (Many IsOption)
 
-options_reads : {b : Bool} {d : ℕ} → Reads b d options_at Options true in_option in_option
+options_reads : {b : Bool} {d : ℕ} → IsReaderOf b d options_at Options true in_option in_option
 unfolding options_at
 options_reads = wide _ _ refl refl refl (made_reads written (many_reads option_reads refl))
 
 abbrev in_secured : Kinds
 in_secured = only kinds.Column ++ only kinds.Secured
 
-secured_reads : {b : Bool} {d : ℕ} → Reads b d secured_at IsSecured false in_secured []
+secured_reads : {b : Bool} {d : ℕ} → IsReaderOf b d secured_at IsSecured false in_secured []
 unfolding secured_at
 secured_reads = wide _ _ refl refl refl (then_reads (may_reads kinds.Column refl) (λ _. after_reads kinds.Secured refl (after_reads kinds.With refl name_reads)) refl)
 
--- behind a column's name
+-- after a column's name
 abbrev SecuredOn : List ℕ → ColumnType → List Bool → Lang Element
 SecuredOn n t before = Either (Seq IsSecured (λ l. Made (λ behind. column_def n t before (Some l) behind) (Many IsOption))) (Nothing (column_def n t before None []))
 
@@ -99,7 +99,7 @@ any_append false (false ∷ xs) ys = refl
 written_append : (xs ys : List Bool) → written (xs ++ ys) ≡ in_either (written xs) (written ys)
 written_append xs ys = ap (λ (c : Bool). (c, any_is true (xs ++ ys))) (any_append false xs ys) ∙ ap (λ (c : Bool). (any_is false xs || any_is false ys, c)) (any_append true xs ys)
 
--- the options before and behind SECURED WITH
+-- the options before and after SECURED WITH
 with_both : (n : List ℕ) (t : ColumnType) (label : Option (List ℕ)) (xs ys : List Bool) → column_def n t xs label ys ≡ column_of n t label (in_either (written xs) (written ys))
 with_both n t label xs ys = ap (λ (w : Bool × Bool). column_of n t label w) (written_append xs ys)
 
@@ -134,7 +134,7 @@ of_column n s ts x p = go p.4 p.4.4
 abbrev after_column : Kinds
 after_column = in_option ++ in_secured
 
-column_reads : {b : Bool} {d : ℕ} {w : Readers} → Ready d w → (n : List ℕ) → Reads b d (column_on w n) (ColumnOn n) false in_type after_column
+column_reads : {b : Bool} {d : ℕ} {w : Readers} → Ready d w → (n : List ℕ) → IsReaderOf b d (column_on w n) (ColumnOn n) false in_type after_column
 unfolding column_on
 column_reads r n = wide _ _ refl refl refl (same_reads (ColumnOn n) (to_column n) (of_column n) (then_reads (type_reads r) (λ t. then_reads options_reads (λ before.
     pick_reads (wide in_secured in_option refl refl refl (then_reads secured_reads (λ l. made_reads (λ behind. column_of n t (Some l) (in_either before behind)) options_reads) refl)) (give_reads (column_of n t None before)) refl) refl) refl))
@@ -142,23 +142,23 @@ column_reads r n = wide _ _ refl refl refl (same_reads (ColumnOn n) (to_column n
 abbrev KeyDef : Lang Element
 KeyDef = After kinds.Key (Made elements.Key (Parens IsName))
 
-key_reads : {b : Bool} {d : ℕ} {w : Readers} → Ready d w → Reads b d (key_at w) KeyDef false (only kinds.Key) []
+key_reads : {b : Bool} {d : ℕ} {w : Readers} → Ready d w → IsReaderOf b d (key_at w) KeyDef false (only kinds.Key) []
 unfolding key_at
 key_reads r = after_reads kinds.Key refl (made_reads elements.Key (parens_reads r (record { reads = λ b d l. name_reads }) refl))
 
-element_on_reads : {b : Bool} {d : ℕ} {w : Readers} → Ready d w → (p : Bool × List ℕ) → Reads b d (element_on w p) (Chosen KeyDef ColumnOn p) false (only kinds.Key ++ in_type) after_column
+element_on_reads : {b : Bool} {d : ℕ} {w : Readers} → Ready d w → (p : Bool × List ℕ) → IsReaderOf b d (element_on w p) (Chosen KeyDef ColumnOn p) false (only kinds.Key ++ in_type) after_column
 unfolding element_on
 element_on_reads r (true, n) = wide _ _ refl refl refl (pick_reads (key_reads r) (column_reads r n) refl)
 element_on_reads r (false, n) = wide _ _ refl refl refl (column_reads r n)
 
-element_reads : {b : Bool} {d : ℕ} {w : Readers} → Ready d w → Reads b d (element_at w) IsElement false names after_column
+element_reads : {b : Bool} {d : ℕ} {w : Readers} → Ready d w → IsReaderOf b d (element_at w) IsElement false names after_column
 unfolding element_at
 element_reads r = wide _ _ refl refl refl (ahead_reads kinds.Primary KeyDef ColumnOn refl (element_on_reads r) refl)
 
 abbrev after_elements : Kinds
 after_elements = only kinds.Comma ++ after_column
 
-elements_reads : {b : Bool} {d : ℕ} {w : Readers} → Ready d w → Reads b d (listed (element_at w)) (Listed IsElement) false names after_elements
+elements_reads : {b : Bool} {d : ℕ} {w : Readers} → Ready d w → IsReaderOf b d (listed (element_at w)) (Listed IsElement) false names after_elements
 elements_reads r = wide _ _ refl refl refl (listed_reads (element_reads r) refl)
 
 in_table : (d : ℕ) → Inside level d (readers d).room (in_table_at d) (Listed IsElement) names after_elements
@@ -166,7 +166,7 @@ unfolding readers in_table_at
 in_table zero = refl
 in_table (suc d) = (refl, (elements_reads {b = true} {d = d} (ready d)).exact refl)
 
-table_reads : {b : Bool} {d : ℕ} → Reads b d (parens (readers d) (in_table_at d)) (Parens (Listed IsElement)) false (only kinds.Open) []
+table_reads : {b : Bool} {d : ℕ} → IsReaderOf b d (parens (readers d) (in_table_at d)) (Parens (Listed IsElement)) false (only kinds.Open) []
 unfolding has
 table_reads {b} {d} =
     let t : Tongue level (Listed IsElement) false names = (elements_reads {b = false} {d = 0} (ready 0)).tongue in
@@ -175,10 +175,10 @@ table_reads {b} {d} =
       exact = λ _. bracket_exact d (readers d).room (in_table_at d) names after_elements kinds.Open kinds.Close (plain_token kinds.Open) (plain_token kinds.Close) refl refl refl refl refl refl t (in_table d);
     }
 
-table_policy_reads : {b : Bool} {d : ℕ} → Reads b d table_policy_at (Optional (After kinds.Security (After kinds.Policy IsName))) true (only kinds.Security) (only kinds.Security)
+table_policy_reads : {b : Bool} {d : ℕ} → IsReaderOf b d table_policy_at (Optional (After kinds.Security (After kinds.Policy IsName))) true (only kinds.Security) (only kinds.Security)
 unfolding table_policy_at
 table_policy_reads = wide _ _ refl refl refl (optional_reads (after_reads kinds.Security refl (after_reads kinds.Policy refl name_reads)))
 
-pub create_table_reads : {b : Bool} {d : ℕ} → Reads b d (create_table_at d) IsCreateTable false (only kinds.Table) (only kinds.Security)
+pub create_table_reads : {b : Bool} {d : ℕ} → IsReaderOf b d (create_table_at d) IsCreateTable false (only kinds.Table) (only kinds.Security)
 unfolding create_table_at
 create_table_reads = wide _ _ refl refl refl (after_reads kinds.Table refl (then_reads name_reads (λ t. then_reads table_reads (λ es. made_reads (changes.CreateTable t es) table_policy_reads) refl) refl))

@@ -9,7 +9,7 @@ use Rattle.lb_tok.specs.Kinds.{Kinds, only}
 use Rattle.lb_tok.specs.Form.{Lang}
 use Rattle.lb_tok.specs.Changes.{IsStmt, IsStatement}
 use Rattle.lb_readt.specs.Readers.{heads}
-use Rattle.lb_tok.specs.Refusals.{Spells, IsRead, FaultSays}
+use Rattle.lb_tok.specs.Refusals.{Spells, IsSpelledWithin, FaultSays}
 
 -- what begins a definition
 abbrev pub definers : Kinds
@@ -30,4 +30,4 @@ AreAll P Q = (ts : List Token) (s : Stmt) → (IsStatement ts s → Spells P ts 
 -- where the first token begins a definition, or where it does not, as b says, what is said of P's statements holds of all
 abbrev pub Decides : Bool → Lang Stmt → Type 0
 Decides b P = (d : ℕ) (found : Tokens) → heads definers found.tokens ≡ b
-    → ((s : Stmt) → IsRead P d found s → IsRead IsStmt d found s) × ((e : ReadFault) → FaultSays P d found e → FaultSays IsStmt d found e)
+    → ((s : Stmt) → IsSpelledWithin P d found s → IsSpelledWithin IsStmt d found s) × ((e : ReadFault) → FaultSays P d found e → FaultSays IsStmt d found e)

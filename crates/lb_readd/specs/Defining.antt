@@ -80,11 +80,11 @@ secured_at = seq (may kinds.Column) (λ _. after kinds.Secured (after kinds.With
 abbrev pub column_of : List ℕ → ColumnType → Option (List ℕ) → Bool × Bool → Element
 column_of n t label w = elements.Column (record { name = n; ty = t; not_null = w.0; key = w.1; secured = label })
 
--- what is written before SECURED WITH, or behind it
+-- what is written before SECURED WITH, or after it
 abbrev pub in_either : Bool × Bool → Bool × Bool → Bool × Bool
 in_either before behind = (before.0 || behind.0, before.1 || behind.1)
 
--- a column behind its name
+-- a column after its name
 unfoldable pub column_on : Readers → List ℕ → Reader Element
 column_on w n = seq (type_at w) (λ t. seq options_at (λ before.
     pick (only kinds.Column ++ only kinds.Secured) (seq secured_at (λ l. made (λ behind. column_of n t (Some l) (in_either before behind)) options_at)) (give (column_of n t None before))))
@@ -92,7 +92,7 @@ column_on w n = seq (type_at w) (λ t. seq options_at (λ before.
 unfoldable pub key_at : Readers → Reader Element
 key_at w = after kinds.Key (made elements.Key (parens w name_at))
 
--- behind a name: where it is PRIMARY, KEY may follow
+-- after a name: where it is PRIMARY, KEY may follow
 unfoldable pub element_on : Readers → Bool × List ℕ → Reader Element
 element_on w p = choose p.0 (pick (only kinds.Key) (key_at w) (column_on w p.1)) (column_on w p.1)
 
@@ -149,7 +149,7 @@ unfoldable pub typed_on : Readers → List ℕ → List ℕ → Option PlainType
 typed_on w t c (Some y) = give (changes.AddColumn t c y)
 typed_on w t c None = made (changes.AddColumn t c) (width_at w)
 
--- behind COLUMN and a word of a type: the word names the column where a type follows, else it is the type of a column named COLUMN
+-- after COLUMN and a word of a type: the word names the column where a type follows, else it is the type of a column named COLUMN
 unfoldable pub type_word_on : Readers → List ℕ → List ℕ → Option PlainType × Option (List ℕ) → Reader Change
 type_word_on w t c (y, Some n) = pick plain_types (new_column_on w t n) (typed_on w t c y)
 type_word_on w t c (y, None) = typed_on w t c y
@@ -164,7 +164,7 @@ behind_column_at w t c = pick plain_types (seq type_word_at (type_word_on w t c)
 unfoldable pub add_policy_at : List ℕ → Reader Change
 add_policy_at t = after kinds.Policy (made (changes.AddPolicy t) name_at)
 
--- a name behind ADD, and whether it is SECURITY or COLUMN
+-- a name after ADD, and whether it is SECURITY or COLUMN
 abbrev pub added_word_at : Reader ((Bool × Bool) × List ℕ)
 added_word_at = marked (λ k. (has (only kinds.Security) k, has (only kinds.Column) k))
 
@@ -185,11 +185,11 @@ unsecure_at t c = after kinds.Column (means kinds.Security (changes.UnsecureColu
 unfoldable pub altered_on : List ℕ → List ℕ → Reader Change
 altered_on t c = pick (only kinds.Secured) (seq (named_at kinds.Secured) (λ _. secure_at t c)) (seq (named_at kinds.Drop) (λ _. unsecure_at t c))
 
--- a name behind ALTER COLUMN, and whether it is SECURED or DROP
+-- a name after ALTER COLUMN, and whether it is SECURED or DROP
 abbrev pub altered_word_at : Reader ((Bool × Bool) × List ℕ)
 altered_word_at = marked (λ k. (has (only kinds.Secured) k, has (only kinds.Drop) k))
 
--- behind COLUMN, which is c, and a name: where the name is SECURED or DROP, the column may be c
+-- after COLUMN, which is c, and a name: where the name is SECURED or DROP, the column may be c
 unfoldable pub altered_word_on : List ℕ → List ℕ → (Bool × Bool) × List ℕ → Reader Change
 altered_word_on t c p =
     choose (p.0).0 (pick (only kinds.With) (secure_at t c) (altered_on t p.1))
@@ -273,7 +273,7 @@ part_at = after kinds.Component (seq name_at (λ c. made (λ e. (c, e)) text_at)
 unfoldable pub piece_at : Reader Next
 piece_at = pick (only kinds.Text) (made (λ e. inl e) text_at) (made (λ p. inr p) part_at)
 
--- the parts that the pieces go on to, behind a component and its elements so far
+-- the parts that the pieces go on to, after a component and its elements so far
 unfoldable pub parts_from : List ℕ → List (List ℕ) → List Next → List LabelPart
 parts_from c es [] = record { component = c; elements = es } ∷ []
 parts_from c es (inl e ∷ ps) = parts_from c (es ++ e ∷ []) ps
@@ -291,7 +291,7 @@ create_component_at w = seq name_at (λ n. made (changes.CreateComponent n) (com
 unfoldable pub new_label_on : List ℕ → Reader Change
 new_label_on p = seq (label_on p) (λ l. made (changes.CreateLabel l) parts_at)
 
--- behind a name: where it is COMPONENT, the component's name may follow
+-- after a name: where it is COMPONENT, the component's name may follow
 unfoldable pub create_label_on : Readers → Bool × List ℕ → Reader Change
 create_label_on w p = choose p.0 (pick names (create_component_at w) (new_label_on p.1)) (new_label_on p.1)
 
@@ -363,6 +363,6 @@ change_at d =
 unfoldable pub definition_at : ℕ → Reader Stmt
 definition_at d = made stmts.Change (change_at d)
 
--- a definition, and nothing behind it
+-- a definition, and nothing after it
 unfoldable pub whole_at : ℕ → Reader Stmt
 whole_at d = seq (definition_at d) ended

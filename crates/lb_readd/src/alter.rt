@@ -1,4 +1,4 @@
-// ALTER TABLE.
+// Reads ALTER TABLE, where a column may be named as the keyword that comes before it.
 ghost use Rattle.std.specs.Prelude.{◌≡◌, Some, None};
 ghost use Rattle.lb_tok.specs.declared.kind.Kind.TheVariants as kinds;
 ghost use Rattle.lb_readt.specs.Readers.{after};
@@ -63,7 +63,7 @@ fn acts<'a>(table: Name, tokens: &'a [Token]) -> Read<'a, Change>
     }
 }
 
-// A new column behind its name: plain
+// A new column after its name: plain
 #[tactic(auto, unfolding(crate::specs::Defining::new_column_on))]
 fn new_column<'a>(table: Name, column: Name, tokens: &'a [Token], depth: u32) -> Read<'a, Change>
     ensures { Gives (λ r. (r.0, r.1.now)) result (new_column_on (readers depth) table column tokens.now) }
@@ -92,7 +92,7 @@ fn typed<'a>(
     }
 }
 
-// Behind COLUMN and a word of a type: the word names the column where a type follows, else it is the type of a column
+// After COLUMN and a word of a type: the word names the column where a type follows, else it is the type of a column
 // named COLUMN.
 #[tactic(auto, unfolding(crate::specs::Defining::type_word_on))]
 fn behind_type_word<'a>(
@@ -116,7 +116,7 @@ fn behind_type_word<'a>(
     }
 }
 
-// Behind COLUMN, which may be the column.
+// After COLUMN, which may be the column.
 #[tactic(auto, unfolding(crate::specs::Defining::behind_column_at))]
 fn behind_column<'a>(table: Name, column: Name, tokens: &'a [Token], depth: u32) -> Read<'a, Change>
     ensures { Gives (λ r. (r.0, r.1.now)) result (behind_column_at (readers depth) table column tokens.now) }
@@ -140,7 +140,7 @@ fn add_policy<'a>(table: Name, tokens: &'a [Token]) -> Read<'a, Change>
     Ok((Change::AddPolicy(table, policy), rest))
 }
 
-// ADD [COLUMN] name plain | ADD SECURITY POLICY name, behind ADD
+// ADD [COLUMN] name plain | ADD SECURITY POLICY name, after ADD
 #[tactic(auto, unfolding(crate::specs::Defining::added_at, crate::specs::Defining::added_on))]
 fn added<'a>(table: Name, tokens: &'a [Token], depth: u32) -> Read<'a, Change>
     ensures { Gives (λ r. (r.0, r.1.now)) result (added_at (readers depth) table tokens.now) }
@@ -192,7 +192,7 @@ fn altered<'a>(table: Name, column: Name, tokens: &'a [Token]) -> Read<'a, Chang
     }
 }
 
-// Behind COLUMN, which is the column where SECURED WITH or DROP COLUMN follows.
+// After COLUMN, which is the column where SECURED WITH or DROP COLUMN follows.
 #[tactic(auto, unfolding(crate::specs::Defining::altered_word_on))]
 fn altered_named<'a>(
     table: Name,
@@ -212,7 +212,7 @@ fn altered_named<'a>(
     }
 }
 
-// ALTER [COLUMN] name .., behind ALTER
+// ALTER [COLUMN] name .., after ALTER
 #[tactic(auto, unfolding(crate::specs::Defining::altered_column_at, crate::specs::Defining::altered_column_on))]
 fn altered_column<'a>(table: Name, tokens: &'a [Token]) -> Read<'a, Change>
     ensures { Gives (λ r. (r.0, r.1.now)) result (altered_column_at table tokens.now) }
@@ -242,7 +242,7 @@ fn alter_column<'a>(table: Name, tokens: &'a [Token]) -> Read<'a, Change>
     altered_column(table, rest)
 }
 
-// What stands behind the table.
+// What stands after the table.
 #[tactic(auto, unfolding(crate::specs::Defining::table_change_on))]
 fn table_change<'a>(table: Name, tokens: &'a [Token], depth: u32) -> Read<'a, Change>
     ensures { Gives (λ r. (r.0, r.1.now)) result (table_change_on (readers depth) table tokens.now) }
@@ -256,7 +256,7 @@ fn table_change<'a>(table: Name, tokens: &'a [Token], depth: u32) -> Read<'a, Ch
     }
 }
 
-/// TABLE name .., behind ALTER
+/// TABLE name .., after ALTER
 #[tactic(auto, unfolding(crate::specs::Defining::alter_table_at))]
 pub fn alter_table<'a>(tokens: &'a [Token], depth: u32) -> Read<'a, Change>
     ensures { Gives (λ r. (r.0, r.1.now)) result (alter_table_at (readers depth) tokens.now) }

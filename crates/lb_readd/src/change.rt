@@ -1,6 +1,7 @@
-// Whole definitions.
+// Reads a whole definition: the first words choose the reader of its kind.
 ghost use Rattle.std.specs.Prelude.{◌≡◌, []};
 ghost use Rattle.lb_readt.specs.Answering.{Gives};
+ghost use Rattle.lb_tok.specs.Limit.{most_brackets};
 ghost use Rattle.lb_stmt.specs.declared.change.Change.TheVariants as changes;
 ghost use Rattle.lb_tok.specs.declared.kind.Kind.TheVariants as kinds;
 ghost use Rattle.lb_readt.specs.Readers.{seq, after, made};
@@ -15,7 +16,7 @@ use crate::label::{create_label, create_policy, drop_label};
 use crate::table::create_table;
 use lb_readg::{granted, revoked};
 use lb_readq::{MOST_BRACKETS, at_end};
-use lb_readt::{Fault, Read, name, next_is, take};
+use lb_readt::{Fault, Read, name, next_is, take, take_if};
 use lb_stmt::{Change, Stmt};
 use lb_tok::{Kind, Token};
 use std::alloc::Global;
@@ -26,8 +27,7 @@ fn create_secured<'a>(alloc: Global, tokens: &'a [Token], depth: u32) -> Read<'a
     ensures { Gives (λ r. (r.0, r.1.now)) result (create_secured_at (readers depth) tokens.now) }
 {
     let rest = take(tokens, Kind::Security)?;
-    if next_is(rest, Kind::Label) {
-        let rest = take(rest, Kind::Label)?;
+    if let Some(rest) = take_if(rest, Kind::Label) {
         create_label(alloc, rest, depth)
     } else {
         create_policy(alloc, rest)
@@ -51,7 +51,7 @@ fn create_control<'a>(alloc: Global, tokens: &'a [Token], depth: u32) -> Read<'a
     control(alloc, replace, rest, depth)
 }
 
-// What stands behind CREATE.
+// What stands after CREATE.
 #[tactic(auto, unfolding(crate::specs::Defining::create_at))]
 fn created<'a>(alloc: Global, tokens: &'a [Token], depth: u32) -> Read<'a, Change>
     ensures { Gives (λ r. (r.0, r.1.now)) result (create_at depth tokens.now) }
@@ -89,7 +89,7 @@ fn switched_mask<'a>(tokens: &'a [Token]) -> Read<'a, Change>
     Ok((Change::SwitchMask(mask, switch), rest))
 }
 
-// What stands behind ALTER.
+// What stands after ALTER.
 #[tactic(auto, unfolding(crate::specs::Defining::alter_at))]
 fn altered<'a>(tokens: &'a [Token], depth: u32) -> Read<'a, Change>
     ensures { Gives (λ r. (r.0, r.1.now)) result (alter_at (readers depth) tokens.now) }
@@ -109,8 +109,7 @@ fn dropped_secured<'a>(tokens: &'a [Token]) -> Read<'a, Change>
     ensures { Gives (λ r. (r.0, r.1.now)) result (dropped_secured_at tokens.now) }
 {
     let rest = take(tokens, Kind::Security)?;
-    if next_is(rest, Kind::Label) {
-        let rest = take(rest, Kind::Label)?;
+    if let Some(rest) = take_if(rest, Kind::Label) {
         drop_label(rest)
     } else {
         let rest = take(rest, Kind::Policy)?;
@@ -155,7 +154,7 @@ fn drop_role<'a>(tokens: &'a [Token]) -> Read<'a, Change>
     Ok((Change::DropRole(role), rest))
 }
 
-// What stands behind DROP.
+// What stands after DROP.
 #[tactic(auto, unfolding(crate::specs::Defining::drop_at))]
 fn dropped<'a>(tokens: &'a [Token]) -> Read<'a, Change>
     ensures { Gives (λ r. (r.0, r.1.now)) result (drop_at tokens.now) }
@@ -231,10 +230,10 @@ fn change<'a>(alloc: Global, tokens: &'a [Token], depth: u32) -> Read<'a, Change
     }
 }
 
-/// A definition, and nothing behind it.
+/// A definition, and nothing after it.
 #[tactic(auto, unfolding(crate::specs::Defining::definition_at, crate::specs::Defining::whole_at))]
 pub fn whole<'a>(alloc: Global, tokens: &'a [Token]) -> Result<Stmt, Fault<'a>>
-    ensures { Gives (λ s. (s, [])) result (whole_at 64 tokens.now) }
+    ensures { Gives (λ s. (s, [])) result (whole_at most_brackets tokens.now) }
 {
     let (change, rest) = change(alloc, tokens, MOST_BRACKETS)?;
     at_end(Stmt::Change(change), rest)

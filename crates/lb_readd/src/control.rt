@@ -1,4 +1,4 @@
-// Permissions and masks.
+// Reads the statements on row permissions and column masks.
 ghost use Rattle.std.specs.Prelude.{◌≡◌};
 ghost use Rattle.lb_readt.specs.Answering.{Gives};
 ghost use Rattle.lb_readq.specs.Queries.{readers};
@@ -7,7 +7,7 @@ ghost use Rattle.lb_readd.specs.Defining.{switch_at, first_switch_at, replace_at
 use lb_base::Name;
 use lb_readg::means;
 use lb_readq::{case, cond, tab};
-use lb_readt::{Read, name, next_is, next_is_either, take};
+use lb_readt::{Read, name, next_is, next_is_either, take, take_if};
 use lb_stmt::{Change, MaskDef, PermissionDef, Switch};
 use lb_tok::{Kind, Token};
 use lb_tree::{Cond, Expr, Tab};
@@ -42,8 +42,7 @@ fn first_switch<'a>(tokens: &'a [Token]) -> Read<'a, Switch>
 pub fn replace<'a>(tokens: &'a [Token]) -> Read<'a, bool>
     ensures { Gives (λ r. (r.0, r.1.now)) result (replace_at tokens.now) }
 {
-    if next_is(tokens, Kind::Or) {
-        let rest = take(tokens, Kind::Or)?;
+    if let Some(rest) = take_if(tokens, Kind::Or) {
         means(rest, Kind::Replace, true)
     } else {
         Ok((false, tokens))
@@ -130,7 +129,7 @@ fn mask<'a>(alloc: Global, replace: bool, tokens: &'a [Token], depth: u32) -> Re
     ))
 }
 
-/// PERMISSION .. | MASK .., behind CREATE [OR REPLACE]
+/// PERMISSION .. | MASK .., after CREATE [OR REPLACE]
 #[tactic(auto, unfolding(crate::specs::Defining::control_at))]
 pub fn control<'a>(
     alloc: Global,

@@ -1,33 +1,21 @@
-// Components, policies and labels.
-ghost use Rattle.std.specs.Prelude.{◌≡◌, ◌∷◌, [], ◌++◌};
-ghost use Rattle.lb_tok.specs.declared.kind.Kind.TheVariants as kinds;
-ghost use Rattle.lb_readt.specs.Readers.{commas, listed};
+// Reads the statements on components, policies and labels.
+ghost use Rattle.std.specs.Prelude.{◌≡◌, ◌++◌};
+ghost use Rattle.lb_readt.specs.Readers.{commas};
 ghost use Rattle.lb_readt.specs.Answering.{Gives};
-ghost use Rattle.lb_readt.specs.Tokens.{name_at};
 ghost use Rattle.lb_readq.specs.Queries.{readers};
-ghost use Rattle.lb_readd.specs.Defining.{texts_at, tree_element_at, tree_at, component_at, create_component_at, new_label_on, create_label_on, create_label_at, which_option_at, write_option_at, create_policy_at, dropped_label_on, drop_label_on, drop_label_at};
+ghost use Rattle.lb_readd.specs.Defining.{tree_element_at, tree_at, component_at, create_component_at, new_label_on, create_label_on, create_label_at, which_option_at, write_option_at, create_policy_at, dropped_label_on, drop_label_on, drop_label_at};
 
 use crate::parts::label_parts;
-use lb_base::{Name, Str};
+use lb_base::Name;
 use lb_readg::{label_behind, means, name_or};
 use lb_readq::open;
 use lb_readt::{
-    Read, name, names, next_is, next_is_either, next_is_name, take, text, texts, with_first,
+    Read, further, name, names, next_is, next_is_either, next_is_name, take, take_if, text, texts,
 };
 use lb_stmt::{Change, ComponentDef, PolicyDef, TreeElement, WriteOption};
 use lb_tok::{Kind, Token};
 use sqlite_items::Items;
 use std::alloc::Global;
-
-// text {, text}
-#[tactic(auto, unfolding(crate::specs::Defining::texts_at))]
-fn all_texts<'a>(alloc: Global, tokens: &'a [Token]) -> Read<'a, Items<Str>>
-    ensures { Gives (λ r. (r.0, r.1.now)) result (texts_at tokens.now) }
-{
-    let (first, rest) = text(tokens)?;
-    let (more, rest) = texts(alloc, rest)?;
-    Ok((with_first(alloc, first, more)?, rest))
-}
 
 // text UNDER text
 #[tactic(auto, unfolding(crate::specs::Defining::tree_element_at))]
@@ -44,19 +32,7 @@ fn tree_element<'a>(tokens: &'a [Token]) -> Read<'a, TreeElement>
 fn tree_elements<'a>(alloc: Global, tokens: &'a [Token]) -> Read<'a, Items<TreeElement>>
     ensures { Gives (λ r. (r.0, r.1.now)) result (commas tree_element_at tokens.now) }
 {
-    let mut parts = Items::new(alloc);
-    let mut rest = tokens;
-    for _ in 0..tokens.len() {
-        if next_is(rest, Kind::Comma) {
-            let after = take(rest, Kind::Comma)?;
-            let (part, after) = tree_element(after)?;
-            parts.push(part)?;
-            rest = after;
-        } else {
-            return Ok((parts, rest));
-        }
-    }
-    Ok((parts, rest))
+    further(alloc, tokens, Kind::Comma, |rest| tree_element(rest))
 }
 
 // text ROOT {, text UNDER text}
@@ -71,20 +47,18 @@ fn tree<'a>(alloc: Global, tokens: &'a [Token]) -> Read<'a, ComponentDef>
 }
 
 // comp = SET "{" .. "}" | ARRAY "[" .. "]" | TREE "(" .. ")"
-#[tactic(auto, unfolding(crate::specs::Defining::component_at))]
+#[tactic(auto, unfolding(crate::specs::Defining::component_at, crate::specs::Defining::texts_at))]
 fn component<'a>(alloc: Global, tokens: &'a [Token], depth: u32) -> Read<'a, ComponentDef>
     ensures { Gives (λ r. (r.0, r.1.now)) result (component_at (readers depth) tokens.now) }
 {
-    if next_is(tokens, Kind::Set) {
-        let rest = take(tokens, Kind::Set)?;
+    if let Some(rest) = take_if(tokens, Kind::Set) {
         let rest = take(rest, Kind::LeftBrace)?;
-        let (elements, rest) = all_texts(alloc, rest)?;
+        let (elements, rest) = texts(alloc, rest)?;
         let rest = take(rest, Kind::RightBrace)?;
         Ok((ComponentDef::Set(elements), rest))
-    } else if next_is(tokens, Kind::Array) {
-        let rest = take(tokens, Kind::Array)?;
+    } else if let Some(rest) = take_if(tokens, Kind::Array) {
         let rest = take(rest, Kind::LeftBracket)?;
-        let (elements, rest) = all_texts(alloc, rest)?;
+        let (elements, rest) = texts(alloc, rest)?;
         let rest = take(rest, Kind::RightBracket)?;
         Ok((ComponentDef::Array(elements), rest))
     } else {
@@ -106,7 +80,7 @@ fn create_component<'a>(alloc: Global, tokens: &'a [Token], depth: u32) -> Read<
     Ok((Change::CreateComponent(name, component), rest))
 }
 
-// . name part {, part}, behind the policy
+// . name part {, part}, after the policy
 #[tactic(auto, unfolding(crate::specs::Defining::new_label_on))]
 fn new_label<'a>(alloc: Global, policy: Name, tokens: &'a [Token]) -> Read<'a, Change>
     ensures { Gives (λ r. (r.0, r.1.now)) result (new_label_on policy tokens.now) }
@@ -116,7 +90,7 @@ fn new_label<'a>(alloc: Global, policy: Name, tokens: &'a [Token]) -> Read<'a, C
     Ok((Change::CreateLabel(label, parts), rest))
 }
 
-/// COMPONENT name comp | name . name part {, part}, behind CREATE SECURITY LABEL
+/// COMPONENT name comp | name . name part {, part}, after CREATE SECURITY LABEL
 #[tactic(auto, unfolding(crate::specs::Defining::create_label_at, crate::specs::Defining::create_label_on))]
 pub fn create_label<'a>(alloc: Global, tokens: &'a [Token], depth: u32) -> Read<'a, Change>
     ensures { Gives (λ r. (r.0, r.1.now)) result (create_label_at (readers depth) tokens.now) }
@@ -158,7 +132,7 @@ fn write_option<'a>(tokens: &'a [Token]) -> Read<'a, WriteOption>
     }
 }
 
-/// POLICY name COMPONENTS name {, name} WITH DB2LBACRULES .., behind CREATE SECURITY
+/// POLICY name COMPONENTS name {, name} WITH DB2LBACRULES .., after CREATE SECURITY
 #[tactic(auto, unfolding(crate::specs::Defining::create_policy_at))]
 pub fn create_policy<'a>(alloc: Global, tokens: &'a [Token]) -> Read<'a, Change>
     ensures { Gives (λ r. (r.0, r.1.now)) result (create_policy_at tokens.now) }
@@ -166,12 +140,10 @@ pub fn create_policy<'a>(alloc: Global, tokens: &'a [Token]) -> Read<'a, Change>
     let rest = take(tokens, Kind::Policy)?;
     let (policy, rest) = name(rest)?;
     let rest = take(rest, Kind::Components)?;
-    let (first, rest) = name(rest)?;
-    let (more, rest) = names(alloc, rest)?;
+    let (components, rest) = names(alloc, rest)?;
     let rest = take(rest, Kind::With)?;
     let rest = take(rest, Kind::Db2LbacRules)?;
     let (option, rest) = write_option(rest)?;
-    let components = with_first(alloc, first, more)?;
     Ok((
         Change::CreatePolicy(PolicyDef {
             name: policy,
@@ -182,7 +154,7 @@ pub fn create_policy<'a>(alloc: Global, tokens: &'a [Token]) -> Read<'a, Change>
     ))
 }
 
-// . name, behind the policy
+// . name, after the policy
 #[tactic(auto, unfolding(crate::specs::Defining::dropped_label_on))]
 fn dropped_label<'a>(policy: Name, tokens: &'a [Token]) -> Read<'a, Change>
     ensures { Gives (λ r. (r.0, r.1.now)) result (dropped_label_on policy tokens.now) }
@@ -191,7 +163,7 @@ fn dropped_label<'a>(policy: Name, tokens: &'a [Token]) -> Read<'a, Change>
     Ok((Change::DropLabel(label), rest))
 }
 
-/// COMPONENT name | name . name, behind DROP SECURITY LABEL
+/// COMPONENT name | name . name, after DROP SECURITY LABEL
 #[tactic(auto, unfolding(crate::specs::Defining::drop_label_at, crate::specs::Defining::drop_label_on))]
 pub fn drop_label<'a>(tokens: &'a [Token]) -> Read<'a, Change>
     ensures { Gives (λ r. (r.0, r.1.now)) result (drop_label_at tokens.now) }

@@ -1,7 +1,8 @@
-// The public call.
+// The public call: a definition from its tokens, or the byte at which they go wrong.
 ghost use Rattle.std.specs.Prelude.{◌≡◌, length, IfOk, IfErr};
 ghost use Rattle.lb_tok.specs.Changes.{IsDefinition};
-ghost use Rattle.lb_tok.specs.Refusals.{IsRead, FaultSays};
+ghost use Rattle.lb_tok.specs.Refusals.{IsSpelledWithin, FaultSays};
+ghost use Rattle.lb_tok.specs.Limit.{most_brackets};
 
 use crate::change::whole;
 use lb_readq::{offset, unless_cut};
@@ -15,8 +16,8 @@ use std::alloc::Global;
 /// that of the byte that begins no token, else the length of the text. `NoMemory` where no memory is left.
 pub fn definition(alloc: Global, tokens: &Tokens) -> Result<Stmt, ReadFault>
     requires { length tokens.now.spans ≡ length tokens.now.tokens }
-    ensures read { IfOk result (λ s. IsRead IsDefinition 64 tokens.now s) }
-    ensures refused { IfErr result (λ e. FaultSays IsDefinition 64 tokens.now e) }
+    ensures read { IfOk result (λ s. IsSpelledWithin IsDefinition most_brackets tokens.now s) }
+    ensures refused { IfErr result (λ e. FaultSays IsDefinition most_brackets tokens.now e) }
 {
     match whole(alloc, tokens.tokens.as_slice()) {
         Ok(stmt) => unless_cut(stmt, tokens.stop),

@@ -13,7 +13,7 @@ use lb_tok::{Kind, Token};
 use sqlite_items::Items;
 use std::alloc::{AllocError, Global};
 
-/// What may follow a comma behind an element.
+/// What may follow a comma after an element.
 #[derive(Drop)]
 pub enum Piece {
     /// A further element of the part.
@@ -126,7 +126,7 @@ fn next_piece<'a>(tokens: &'a [Token]) -> Read<'a, Piece>
     }
 }
 
-// {, piece} behind a part's first element
+// {, piece} after a part's first element
 #[tactic(auto, unfolding(crate::specs::Defining::parts_on))]
 fn pieces<'a>(
     alloc: Global,

@@ -1,8 +1,8 @@
-// CREATE TABLE.
+// Reads CREATE TABLE: columns, their options in any order, and PRIMARY KEY elements.
 ghost use Rattle.std.specs.Prelude.{◌≡◌, ◌<◌, ◌∷◌, [], ◌++◌, ◌||◌, not, Some, None};
 ghost use Rattle.lb_tok.specs.Kinds.{only};
 ghost use Rattle.lb_tok.specs.declared.kind.Kind.TheVariants as kinds;
-ghost use Rattle.lb_readt.specs.Readers.{heads, commas};
+ghost use Rattle.lb_readt.specs.Readers.{heads, listed};
 ghost use Rattle.lb_readt.specs.Answering.{Gives};
 ghost use Rattle.lb_readq.specs.Queries.{readers};
 ghost use Rattle.lb_readd.specs.Defining.{width_at, plain_type_at, type_at, option_at, options_at, secured_at, column_on, key_at, element_at, in_table_at, table_policy_at, create_table_at};
@@ -10,7 +10,7 @@ ghost use Rattle.lb_readd.specs.Defining.{width_at, plain_type_at, type_at, opti
 use lb_base::Name;
 use lb_readg::{means, name_or};
 use lb_readq::open;
-use lb_readt::{Read, int, name, next_is, next_is_either, noise, take, with_first};
+use lb_readt::{Read, int, listed, name, next_is, next_is_either, noise, take, take_if};
 use lb_stmt::{Change, ColumnDef, ColumnType, Element, PlainType};
 use lb_tok::{Kind, Token};
 use sqlite_items::Items;
@@ -38,8 +38,7 @@ pub fn plain_type<'a>(tokens: &'a [Token], depth: u32) -> Read<'a, PlainType>
         means(tokens, Kind::Integer, PlainType::Int)
     } else if next_is(tokens, Kind::Int) {
         means(tokens, Kind::Int, PlainType::Int)
-    } else if next_is(tokens, Kind::Varchar) {
-        let rest = take(tokens, Kind::Varchar)?;
+    } else if let Some(rest) = take_if(tokens, Kind::Varchar) {
         width(rest, depth)
     } else {
         means(tokens, Kind::Date, PlainType::Date)
@@ -64,8 +63,7 @@ fn column_type<'a>(tokens: &'a [Token], depth: u32) -> Read<'a, ColumnType>
 fn option<'a>(tokens: &'a [Token]) -> Read<'a, bool>
     ensures { Gives (λ r. (r.0, r.1.now)) result (option_at tokens.now) }
 {
-    if next_is(tokens, Kind::Not) {
-        let rest = take(tokens, Kind::Not)?;
+    if let Some(rest) = take_if(tokens, Kind::Not) {
         means(rest, Kind::Null, false)
     } else {
         let rest = take(tokens, Kind::Primary)?;
@@ -126,7 +124,7 @@ fn secured<'a>(tokens: &'a [Token]) -> Read<'a, Name>
     name(rest)
 }
 
-// A column behind its name.
+// A column after its name.
 #[tactic(auto, unfolding(crate::specs::Defining::column_on))]
 fn column<'a>(column: Name, tokens: &'a [Token], depth: u32) -> Read<'a, Element>
     ensures { Gives (λ r. (r.0, r.1.now)) result (column_on (readers depth) column tokens.now) }
@@ -185,23 +183,11 @@ fn element<'a>(tokens: &'a [Token], depth: u32) -> Read<'a, Element>
     }
 }
 
-// {, elem}
+// elem {, elem}
 fn elements<'a>(alloc: Global, tokens: &'a [Token], depth: u32) -> Read<'a, Items<Element>>
-    ensures { Gives (λ r. (r.0, r.1.now)) result (commas (element_at (readers depth)) tokens.now) }
+    ensures { Gives (λ r. (r.0, r.1.now)) result (listed (element_at (readers depth)) tokens.now) }
 {
-    let mut parts = Items::new(alloc);
-    let mut rest = tokens;
-    for _ in 0..tokens.len() {
-        if next_is(rest, Kind::Comma) {
-            let after = take(rest, Kind::Comma)?;
-            let (part, after) = element(after, depth)?;
-            parts.push(part)?;
-            rest = after;
-        } else {
-            return Ok((parts, rest));
-        }
-    }
-    Ok((parts, rest))
+    listed(alloc, tokens, |rest| element(rest, depth))
 }
 
 // What the bracket holds.
@@ -210,9 +196,7 @@ fn in_table<'a>(alloc: Global, tokens: &'a [Token], depth: u32) -> Read<'a, Item
     requires { 0 < depth }
     ensures { Gives (λ r. (r.0, r.1.now)) result (in_table_at depth tokens.now) }
 {
-    let (first, rest) = element(tokens, depth - 1)?;
-    let (more, rest) = elements(alloc, rest, depth - 1)?;
-    Ok((with_first(alloc, first, more)?, rest))
+    elements(alloc, tokens, depth - 1)
 }
 
 // [SECURITY POLICY name]
@@ -220,8 +204,7 @@ fn in_table<'a>(alloc: Global, tokens: &'a [Token], depth: u32) -> Read<'a, Item
 fn table_policy<'a>(tokens: &'a [Token]) -> Read<'a, Option<Name>>
     ensures { Gives (λ r. (r.0, r.1.now)) result (table_policy_at tokens.now) }
 {
-    if next_is(tokens, Kind::Security) {
-        let rest = take(tokens, Kind::Security)?;
+    if let Some(rest) = take_if(tokens, Kind::Security) {
         let rest = take(rest, Kind::Policy)?;
         let (policy, rest) = name(rest)?;
         Ok((Some(policy), rest))

@@ -13,27 +13,27 @@ use Rattle.lb_tok.specs.Grammar.{ands, ors, InExpr, InCond, InQuery, IsFact, IsE
 use Rattle.lb_readt.specs.Readers.{Reader, seq}
 use Rattle.lb_reade.specs.Expressions.{Mixed, Side, Readers, rest_at, null_test_at, set_at, range_at, side_at, compared_on, compared_at, pred_at, in_pred, may_pred, behind, exists_at, prim_with, prim_at, may_prim, neg_at, may_neg, and_on, conj_at, or_on, cond_at, mixed_on, mixed_at}
 use Rattle.lb_readt.proofs.Joined.{Within}
-use Rattle.lb_readt.proofs.Combined.{Reads, give_reads, then_reads, same_reads, pick_reads, many_reads, wide, made_reads, after_reads, means_reads, listed_reads}
+use Rattle.lb_readt.proofs.Combined.{IsReaderOf, give_reads, then_reads, same_reads, pick_reads, many_reads, wide, made_reads, after_reads, means_reads, listed_reads}
 use Rattle.lb_reade.proofs.Inner.{in_fact, in_cond, MixedOf, InMixed}
 use Rattle.lb_readt.proofs.Languages.{assoc, unassoc, seq_map, bracket_map, nil, ends, made_is, made_of}
 use Rattle.lb_readt.proofs.Tokens.{comparison_reads}
 use Rattle.lb_reade.proofs.Expressions.{after_expr, after_cond, after_query, Lower, Ready, parens_reads, expr_reads, rest_reads, plain_reads, Plain, Rest, in_rest, to_parts, from_parts}
 
--- what may go on behind a primary condition
+-- what may go on after a primary condition
 abbrev after_prim : Kinds
 after_prim = after_expr ++ in_pred
 
 -- ---- predicates
 
-null_test_reads : {b : Bool} {d : ℕ} (e : Expr) → Reads b d (null_test_at e) (IsNullTest e) false (only kinds.Not ++ only kinds.Null) []
+null_test_reads : {b : Bool} {d : ℕ} (e : Expr) → IsReaderOf b d (null_test_at e) (IsNullTest e) false (only kinds.Not ++ only kinds.Null) []
 unfolding null_test_at
 null_test_reads e = wide _ _ refl refl refl (pick_reads (after_reads kinds.Not refl (made_reads conds.Not (means_reads kinds.Null (conds.IsNull e) refl))) (means_reads kinds.Null (conds.IsNull e) refl) refl)
 
-set_reads : {b : Bool} {d : ℕ} {w : Readers} (e : Expr) → Lower b d w → Reads b d (set_at w e) (IsSet e) false (only kinds.Select ++ in_fact) after_query
+set_reads : {b : Bool} {d : ℕ} {w : Readers} (e : Expr) → Lower b d w → IsReaderOf b d (set_at w e) (IsSet e) false (only kinds.Select ++ in_fact) after_query
 unfolding set_at
 set_reads e l = wide _ _ refl refl refl (pick_reads (made_reads (conds.InQuery e) l.query) (made_reads (conds.InList e) (listed_reads l.expr refl)) refl)
 
-range_reads : {b : Bool} {d : ℕ} {w : Readers} → Ready d w → (e : Expr) → Reads b d (range_at w e) (IsRange e) false (only kinds.In ++ only kinds.Between) after_expr
+range_reads : {b : Bool} {d : ℕ} {w : Readers} → Ready d w → (e : Expr) → IsReaderOf b d (range_at w e) (IsRange e) false (only kinds.In ++ only kinds.Between) after_expr
 unfolding range_at
 range_reads r e = wide _ _ refl refl refl (pick_reads (after_reads kinds.In refl (parens_reads r (record { reads = λ b d l. set_reads e l }) refl))
     (after_reads kinds.Between refl (then_reads (expr_reads r) (λ low. after_reads kinds.And refl (made_reads (λ high. conds.Between e low high) (expr_reads r))) refl)) refl)
@@ -42,7 +42,7 @@ range_reads r e = wide _ _ refl refl refl (pick_reads (after_reads kinds.In refl
 abbrev SideOf : Lang Side
 SideOf = Either (Made (λ q. inl q) InQuery) (Made (λ e. inr e) InExpr)
 
-side_reads : {b : Bool} {d : ℕ} {w : Readers} → Lower b d w → Reads b d (side_at w) SideOf false (only kinds.Select ++ in_fact) after_query
+side_reads : {b : Bool} {d : ℕ} {w : Readers} → Lower b d w → IsReaderOf b d (side_at w) SideOf false (only kinds.Select ++ in_fact) after_query
 unfolding side_at
 side_reads l = wide _ _ refl refl refl (pick_reads (made_reads (λ q. inl q) l.query) (made_reads (λ e. inr e) l.expr) refl)
 
@@ -50,7 +50,7 @@ abbrev ComparedOn : Expr → Comparison → Side → Lang Cond
 ComparedOn e c (inl q) = Nothing (conds.CompareQuery c e q)
 ComparedOn e c (inr x) = Made (conds.Compare c e) (Rest x)
 
-compared_on_reads : {b : Bool} {d : ℕ} {w : Readers} → Ready d w → (e : Expr) (c : Comparison) (m : Side) → Reads b d (compared_on w e c m) (ComparedOn e c m) true in_rest after_expr
+compared_on_reads : {b : Bool} {d : ℕ} {w : Readers} → Ready d w → (e : Expr) (c : Comparison) (m : Side) → IsReaderOf b d (compared_on w e c m) (ComparedOn e c m) true in_rest after_expr
 compared_on_reads r e c (inl q) = wide _ _ refl refl refl (give_reads (conds.CompareQuery c e q))
 compared_on_reads r e c (inr x) = made_reads (conds.Compare c e) (rest_reads r x)
 
@@ -106,12 +106,12 @@ of_compared e c s ts y (inr p) = let q = of_exprs (λ z. Nothing (conds.Compare 
     go q (inl b) = inl (q.0, q.1, inr q.2, bracket_map kinds.Open kinds.Close InExpr SideOf s q.2 (inr q.2) (λ u z. inr (made_is (λ x. inr x) InExpr s u q.2 z)) q.0 b, q.4, q.5)
     go q (inr b) = inr (q.0, q.1, q.2, b, q.4, q.5)
 
-compared_reads : {b : Bool} {d : ℕ} {w : Readers} → Ready d w → (e : Expr) (c : Comparison) → Reads b d (compared_at w e c) (RightSide e c) false in_fact after_expr
+compared_reads : {b : Bool} {d : ℕ} {w : Readers} → Ready d w → (e : Expr) (c : Comparison) → IsReaderOf b d (compared_at w e c) (RightSide e c) false in_fact after_expr
 unfolding compared_at
 compared_reads r e c = wide _ _ refl refl refl (same_reads (RightSide e c) (to_compared e c) (of_compared e c) (pick_reads (then_reads (parens_reads r (record { reads = λ b d l. side_reads l }) refl) (compared_on_reads r e c) refl)
     (then_reads (plain_reads r) (λ x. made_reads (conds.Compare c e) (rest_reads r x)) refl) refl))
 
-pub pred_reads : {b : Bool} {d : ℕ} {w : Readers} → Ready d w → (e : Expr) → Reads b d (pred_at w e) (IsPred e) false in_pred after_expr
+pub pred_reads : {b : Bool} {d : ℕ} {w : Readers} → Ready d w → (e : Expr) → IsReaderOf b d (pred_at w e) (IsPred e) false in_pred after_expr
 unfolding pred_at
 pred_reads r e = wide _ _ refl refl refl (pick_reads (then_reads comparison_reads (compared_reads r e) refl)
     (pick_reads (after_reads kinds.Is refl (null_test_reads e)) (pick_reads (after_reads kinds.Not refl (made_reads conds.Not (range_reads r e))) (range_reads r e) refl) refl) refl)
@@ -119,7 +119,7 @@ pred_reads r e = wide _ _ refl refl refl (pick_reads (then_reads comparison_read
 abbrev MayPred : Expr → Lang Mixed
 MayPred x = Either (Made (λ c. inl c) (IsPred x)) (Nothing (inr x))
 
-may_pred_reads : {b : Bool} {d : ℕ} {w : Readers} → Ready d w → (x : Expr) → Reads b d (may_pred w x) (MayPred x) true in_pred after_prim
+may_pred_reads : {b : Bool} {d : ℕ} {w : Readers} → Ready d w → (x : Expr) → IsReaderOf b d (may_pred w x) (MayPred x) true in_pred after_prim
 unfolding may_pred
 may_pred_reads r x = wide _ _ refl refl refl (pick_reads (made_reads (λ c. inl c) (pred_reads r x)) (give_reads (inr x)) refl)
 
@@ -139,20 +139,20 @@ PrimWith f Last = Either (Made f IsExists)
 abbrev in_behind : Kinds
 in_behind = in_rest ++ in_pred
 
-behind_reads : {b : Bool} {d : ℕ} {w : Readers} → Ready d w → {M : Type 0} (f : Cond → M) (last : Expr → Reader M) (Last : Expr → Lang M) → ((x : Expr) → Reads b d (seq (rest_at w x) last) (Seq (Rest x) Last) true in_behind after_prim)
-    → (m : Mixed) → Reads b d (behind w f last m) (Behind f Last m) true in_behind after_prim
+behind_reads : {b : Bool} {d : ℕ} {w : Readers} → Ready d w → {M : Type 0} (f : Cond → M) (last : Expr → Reader M) (Last : Expr → Lang M) → ((x : Expr) → IsReaderOf b d (seq (rest_at w x) last) (Seq (Rest x) Last) true in_behind after_prim)
+    → (m : Mixed) → IsReaderOf b d (behind w f last m) (Behind f Last m) true in_behind after_prim
 behind_reads r f last Last tail (inl c) = wide _ _ refl refl refl (give_reads (f c))
 behind_reads r f last Last tail (inr x) = tail x
 
-exists_reads : {b : Bool} {d : ℕ} {w : Readers} → Ready d w → Reads b d (exists_at w) IsExists false (only kinds.Exists) []
+exists_reads : {b : Bool} {d : ℕ} {w : Readers} → Ready d w → IsReaderOf b d (exists_at w) IsExists false (only kinds.Exists) []
 unfolding exists_at
 exists_reads r = after_reads kinds.Exists refl (made_reads conds.Exists (parens_reads r (record { reads = λ b d l. l.query }) refl))
 
 abbrev in_prim : Kinds
 in_prim = only kinds.Exists ++ in_fact
 
-prim_with_reads : {b : Bool} {d : ℕ} {w : Readers} → Ready d w → {M : Type 0} (f : Cond → M) (last : Expr → Reader M) (Last : Expr → Lang M) → ((x : Expr) → Reads b d (seq (rest_at w x) last) (Seq (Rest x) Last) true in_behind after_prim)
-    → Reads b d (prim_with w f last) (PrimWith f Last) false in_prim after_prim
+prim_with_reads : {b : Bool} {d : ℕ} {w : Readers} → Ready d w → {M : Type 0} (f : Cond → M) (last : Expr → Reader M) (Last : Expr → Lang M) → ((x : Expr) → IsReaderOf b d (seq (rest_at w x) last) (Seq (Rest x) Last) true in_behind after_prim)
+    → IsReaderOf b d (prim_with w f last) (PrimWith f Last) false in_prim after_prim
 unfolding prim_with
 prim_with_reads r f last Last tail = wide _ _ refl refl refl (
     pick_reads (made_reads f (exists_reads r))
@@ -218,17 +218,17 @@ may_back s ts (inl c) (inr (inl p)) = of_spread (λ c. inl c) MayPred s ts (inl 
 may_back s ts (inl c) (inr (inr p)) = of_spread (λ c. inl c) MayPred s ts (inl c) (inr (inr (p.0, p.1, p.2, p.3, inl (made_is one_of (IsPred p.2) s p.1 c p.4), p.5)))
 may_back s ts (inr x) p = of_spread (λ c. inl c) MayPred s ts (inr x) (inr (inr (ts, [], x, p, inr (refl, refl), sym (nil ts))))
 
-pub prim_reads : {b : Bool} {d : ℕ} {w : Readers} → Ready d w → Reads b d (prim_at w) IsPrim false in_prim after_prim
+pub prim_reads : {b : Bool} {d : ℕ} {w : Readers} → Ready d w → IsReaderOf b d (prim_at w) IsPrim false in_prim after_prim
 unfolding prim_at
 prim_reads {b} {d} {w} r = same_reads IsPrim prim_into prim_back (prim_with_reads r (λ c. c) (pred_at w) IsPred (λ x. wide _ _ refl refl refl (then_reads (rest_reads r x) (pred_reads r) refl)))
 
-may_prim_reads : {b : Bool} {d : ℕ} {w : Readers} → Ready d w → Reads b d (may_prim w) (MixedOf IsPrim IsExpr) false in_prim after_prim
+may_prim_reads : {b : Bool} {d : ℕ} {w : Readers} → Ready d w → IsReaderOf b d (may_prim w) (MixedOf IsPrim IsExpr) false in_prim after_prim
 unfolding may_prim
 may_prim_reads {b} {d} {w} r = same_reads (MixedOf IsPrim IsExpr) may_into may_back (prim_with_reads r (λ c. inl c) (may_pred w) MayPred (λ x. wide _ _ refl refl refl (then_reads (rest_reads r x) (may_pred_reads r) refl)))
 
 -- ---- NOT, AND, OR
 
-neg_reads : {b : Bool} {d : ℕ} {w : Readers} → Ready d w → Reads b d (neg_at w) IsNeg false in_cond after_prim
+neg_reads : {b : Bool} {d : ℕ} {w : Readers} → Ready d w → IsReaderOf b d (neg_at w) IsNeg false in_cond after_prim
 unfolding neg_at
 neg_reads r = wide _ _ refl refl refl (pick_reads (after_reads kinds.Not refl (made_reads conds.Not (prim_reads r))) (prim_reads r) refl)
 
@@ -241,19 +241,19 @@ OrOn x = Made (ors x) (Many (After kinds.Or IsConj))
 abbrev after_and : Kinds
 after_and = after_prim ++ only kinds.And
 
-and_on_reads : {b : Bool} {d : ℕ} {w : Readers} → Ready d w → (x : Cond) → Reads b d (and_on w x) (AndOn x) true (only kinds.And) after_and
+and_on_reads : {b : Bool} {d : ℕ} {w : Readers} → Ready d w → (x : Cond) → IsReaderOf b d (and_on w x) (AndOn x) true (only kinds.And) after_and
 unfolding and_on
 and_on_reads r x = wide _ _ refl refl refl (made_reads (ands x) (many_reads (after_reads kinds.And refl (neg_reads r)) refl))
 
-conj_reads : {b : Bool} {d : ℕ} {w : Readers} → Ready d w → Reads b d (conj_at w) IsConj false in_cond after_and
+conj_reads : {b : Bool} {d : ℕ} {w : Readers} → Ready d w → IsReaderOf b d (conj_at w) IsConj false in_cond after_and
 unfolding conj_at
 conj_reads r = wide _ _ refl refl refl (then_reads (neg_reads r) (and_on_reads r) refl)
 
-or_on_reads : {b : Bool} {d : ℕ} {w : Readers} → Ready d w → (x : Cond) → Reads b d (or_on w x) (OrOn x) true (only kinds.Or) after_cond
+or_on_reads : {b : Bool} {d : ℕ} {w : Readers} → Ready d w → (x : Cond) → IsReaderOf b d (or_on w x) (OrOn x) true (only kinds.Or) after_cond
 unfolding or_on
 or_on_reads r x = wide _ _ refl refl refl (made_reads (ors x) (many_reads (after_reads kinds.Or refl (conj_reads r)) refl))
 
-pub cond_reads : {b : Bool} {d : ℕ} {w : Readers} → Ready d w → Reads b d (cond_at w) IsCond false in_cond after_cond
+pub cond_reads : {b : Bool} {d : ℕ} {w : Readers} → Ready d w → IsReaderOf b d (cond_at w) IsCond false in_cond after_cond
 unfolding cond_at
 cond_reads r = wide _ _ refl refl refl (then_reads (conj_reads r) (or_on_reads r) refl)
 
@@ -262,7 +262,7 @@ cond_reads r = wide _ _ refl refl refl (then_reads (conj_reads r) (or_on_reads r
 abbrev MayNeg : Lang Mixed
 MayNeg = Either (After kinds.Not (Made (λ c. inl (conds.Not c)) IsPrim)) (MixedOf IsPrim IsExpr)
 
-may_neg_reads : {b : Bool} {d : ℕ} {w : Readers} → Ready d w → Reads b d (may_neg w) MayNeg false in_cond after_prim
+may_neg_reads : {b : Bool} {d : ℕ} {w : Readers} → Ready d w → IsReaderOf b d (may_neg w) MayNeg false in_cond after_prim
 unfolding may_neg
 may_neg_reads r = wide _ _ refl refl refl (pick_reads (after_reads kinds.Not refl (made_reads (λ c. inl (conds.Not c)) (prim_reads r))) (may_prim_reads r) refl)
 
@@ -273,7 +273,7 @@ MixedOn (inr e) = Nothing (inr e)
 abbrev in_mixed_on : Kinds
 in_mixed_on = only kinds.And ++ only kinds.Or
 
-mixed_on_reads : {b : Bool} {d : ℕ} {w : Readers} → Ready d w → (m : Mixed) → Reads b d (mixed_on w m) (MixedOn m) true in_mixed_on after_cond
+mixed_on_reads : {b : Bool} {d : ℕ} {w : Readers} → Ready d w → (m : Mixed) → IsReaderOf b d (mixed_on w m) (MixedOn m) true in_mixed_on after_cond
 mixed_on_reads r (inl c) = wide _ _ refl refl refl (then_reads (and_on_reads r c) (λ x. made_reads (λ y. inl y) (or_on_reads r x)) refl)
 mixed_on_reads r (inr e) = wide _ _ refl refl refl (give_reads (inr e))
 
@@ -314,6 +314,6 @@ mixed_back s ts (inl c) p =
         inl (n.0, n.1, n.2, n.3, subst (λ (z : Cond). Made (λ v. one_of (conds.Not v)) IsPrim s n.1 (one_of z)) (sym m.2) (made_is (λ v. one_of (conds.Not v)) IsPrim s n.1 m.0 m.1), n.5)
     negs u x (inr n) = inr n
 
-pub mixed_reads : {b : Bool} {d : ℕ} {w : Readers} → Ready d w → Reads b d (mixed_at w) (MixedOf IsCond IsExpr) false in_cond after_cond
+pub mixed_reads : {b : Bool} {d : ℕ} {w : Readers} → Ready d w → IsReaderOf b d (mixed_at w) (MixedOf IsCond IsExpr) false in_cond after_cond
 unfolding mixed_at
 mixed_reads r = wide _ _ refl refl refl (same_reads (MixedOf IsCond IsExpr) mixed_into mixed_back (then_reads (may_neg_reads r) (mixed_on_reads r) refl))

@@ -20,7 +20,7 @@ use Rattle.lb_readt.specs.Readers.{Reader, heads}
 use Rattle.lb_reade.specs.Expressions.{Mixed}
 use Rattle.lb_readt.proofs.Sets.{subset, has_only}
 use Rattle.lb_readt.proofs.Joined.{Ev, Begins, Tongue, Exact, Meets, via}
-use Rattle.lb_readt.proofs.Combined.{Reads, plain_token, begins_wide}
+use Rattle.lb_readt.proofs.Combined.{IsReaderOf, plain_token, begins_wide}
 use Rattle.lb_readt.proofs.Tokens.{name_token}
 
 -- what begins a language, whatever stands in brackets
@@ -221,7 +221,7 @@ mixed_tongue = record { tokens = expr_tongue.tokens; tree = inr expr_tongue.tree
 
 -- from the languages to those in brackets
 pub down_reads : {b : Bool} {d : ℕ} {A : Type 0} {f : Reader A} {P : Lang A} {F E : Kinds} (Q : Lang A) → ((ts : List Token) (x : A) → Q (level 0) ts x → ⊥) → ((k : ℕ) (ts : List Token) (x : A) → Q (level (suc k)) ts x → P (level k) ts x) → ((k : ℕ) (ts : List Token) (x : A) → P (level k) ts x → Q (level (suc k)) ts x)
-    → Tongue level Q false F → Reads b d f P false F E → Reads b d f Q false F E
+    → Tongue level Q false F → IsReaderOf b d f P false F E → IsReaderOf b d f Q false F E
 down_reads {b} {d} {A} {f} {P} {F} {E} Q none down up t p =
     record { tongue = t; exact = λ e. let q = p.exact e in record { tongue = t; sound = λ ts. via level d d f f P Q ts (f ts) (λ u x. up_ev P Q u x (λ k. up k u x)) (λ front rest r w al. refl) (q.sound ts); only = only q } }
   where

@@ -27,7 +27,7 @@ abbrev pub mixed_of : read_mixed.Mixed → Mixed
 mixed_of (mixeds.Cond c) = inl c
 mixed_of (mixeds.Expr e) = inr e
 
--- what stands in a parenthesis behind a comparison sign
+-- what stands in a parenthesis after a comparison sign
 abbrev pub side_of : read_side.Side → Side
 side_of (sides.Query q) = inl q
 side_of (sides.Expr e) = inr e

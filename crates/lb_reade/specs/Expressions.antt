@@ -1,5 +1,5 @@
 -- Expressions and conditions, read from left to right by the next token. X_at reads the production X of the grammar, where w
--- says what reads in brackets; X_on reads the rest of it behind a part that is given. Where two alternatives begin alike,
+-- says what reads in brackets; X_on reads the rest of it after a part that is given. Where two alternatives begin alike,
 -- the reader takes what they share first.
 use Rattle.std.specs.Prelude.{ℕ, List, ◌∷◌, ◌++◌, Bool, true, false, Option, Some, None, ◌⊎◌, if◌then◌else◌}
 use Rattle.std.proofs.Common.{inl, inr}
@@ -27,7 +27,7 @@ use Rattle.lb_readt.specs.Tokens.{name_at, text_at, int_at, negative_at, day_at,
 abbrev pub Mixed : Type 0
 Mixed = Cond ⊎ Expr
 
--- what stands in a parenthesis behind a comparison sign
+-- what stands in a parenthesis after a comparison sign
 abbrev pub Side : Type 0
 Side = Query ⊎ Expr
 
@@ -57,11 +57,11 @@ choice_at w = after kinds.When (seq w.expr (λ v. after kinds.Then (made (λ e. 
 unfoldable pub else_at : Readers → Reader (Option Expr)
 else_at w = optional (only kinds.Else) (after kinds.Else w.expr)
 
--- behind CASE, where WHEN comes next: a searched CASE
+-- after CASE, where WHEN comes next: a searched CASE
 unfoldable pub arms_at : Readers → Reader Expr
 arms_at w = seq (arm_at w) (λ a. seq (many (only kinds.When) (arm_at w)) (λ as'. made (exprs.Case (a ∷ as')) (else_at w)))
 
--- behind CASE, where an operand comes next: a simple CASE
+-- after CASE, where an operand comes next: a simple CASE
 unfoldable pub choices_at : Readers → Reader Expr
 choices_at w = seq w.expr (λ v. seq (choice_at w) (λ c. seq (many (only kinds.When) (choice_at w)) (λ cs. made (exprs.Match v (c ∷ cs)) (else_at w))))
 
@@ -116,7 +116,7 @@ in_arguments_at w calls.SecLabelByName = made (λ p. exprs.Atom (atoms.SecLabelB
 in_arguments_at w calls.SecLabelToChar = shown_at
 in_arguments_at w calls.Date = date_at
 
--- the arguments of a function, behind its name: those of DATE may be a text alone
+-- the arguments of a function, after its name: those of DATE may be a text alone
 unfoldable pub arguments_at : Readers → Call → Reader Expr
 arguments_at w c = choose (is_date c) (pick (only kinds.Open) (parens w (in_arguments_at w c)) date_at) (parens w (in_arguments_at w c))
 
@@ -124,12 +124,12 @@ arguments_at w c = choose (is_date c) (pick (only kinds.Open) (parens w (in_argu
 unfoldable pub begins_arguments : Call → Kinds
 begins_arguments c = if is_date c then only kinds.Open ++ only kinds.Text else only kinds.Open
 
--- behind a name: the arguments of a function, or nothing
+-- after a name: the arguments of a function, or nothing
 unfoldable pub called_at : Readers → Option Call → List ℕ → Reader Expr
 called_at w None n = give (a_column (alone n))
 called_at w (Some c) n = pick (begins_arguments c) (arguments_at w c) (give (a_column (alone n)))
 
--- behind a name: the column of the table that it names, or as above
+-- after a name: the column of the table that it names, or as above
 unfoldable pub named_on : Readers → Option Call × List ℕ → Reader Expr
 named_on w p = pick (only kinds.Dot) (after kinds.Dot (made (λ m. a_column (of_table p.1 m)) name_at)) (called_at w p.0 p.1)
 
@@ -199,7 +199,7 @@ sum_on w x = made (sums x) (many signs (signed_at w))
 unfoldable pub expr_at : Readers → Reader Expr
 expr_at w = seq (concat_at w) (sum_on w)
 
--- the rest of an expression behind its first factor
+-- the rest of an expression after its first factor
 unfoldable pub rest_at : Readers → Expr → Reader Expr
 rest_at w x = seq (product_on w x) (λ t. seq (concat_on w t) (sum_on w))
 
@@ -209,7 +209,7 @@ rest_at w x = seq (product_on w x) (λ t. seq (concat_on w t) (sum_on w))
 abbrev pub negated : Reader Cond → Reader Cond
 negated f = pick (only kinds.Not) (after kinds.Not (made conds.Not f)) f
 
--- behind e IS: [NOT] NULL
+-- after e IS: [NOT] NULL
 unfoldable pub null_test_at : Expr → Reader Cond
 null_test_at e = negated (means kinds.Null (conds.IsNull e))
 
@@ -217,7 +217,7 @@ null_test_at e = negated (means kinds.Null (conds.IsNull e))
 unfoldable pub set_at : Readers → Expr → Reader Cond
 set_at w e = pick (only kinds.Select) (made (conds.InQuery e) w.query) (made (conds.InList e) (listed w.expr))
 
--- behind e [NOT]: IN or BETWEEN
+-- after e [NOT]: IN or BETWEEN
 unfoldable pub range_at : Readers → Expr → Reader Cond
 range_at w e = pick (only kinds.In) (after kinds.In (parens w (set_at w e)))
     (after kinds.Between (seq (expr_at w) (λ low. after kinds.And (made (λ high. conds.Between e low high) (expr_at w)))))
@@ -226,16 +226,16 @@ range_at w e = pick (only kinds.In) (after kinds.In (parens w (set_at w e)))
 unfoldable pub side_at : Readers → Reader Side
 side_at w = pick (only kinds.Select) (made (λ q. inl q) w.query) (made (λ e. inr e) w.expr)
 
--- behind the parenthesis of a comparison: nothing follows a query, the rest of an expression follows its beginning
+-- after the parenthesis of a comparison: nothing follows a query, the rest of an expression follows its beginning
 abbrev pub compared_on : Readers → Expr → Comparison → Side → Reader Cond
 compared_on w e c (inl q) = give (conds.CompareQuery c e q)
 compared_on w e c (inr x) = made (conds.Compare c e) (rest_at w x)
 
--- behind e and a comparison sign: "(" query ")" | expr
+-- after e and a comparison sign: "(" query ")" | expr
 unfoldable pub compared_at : Readers → Expr → Comparison → Reader Cond
 compared_at w e c = pick (only kinds.Open) (seq (parens w (side_at w)) (compared_on w e c)) (seq (plain_at w) (λ x. made (conds.Compare c e) (rest_at w x)))
 
--- behind e: a predicate
+-- after e: a predicate
 unfoldable pub pred_at : Readers → Expr → Reader Cond
 pred_at w e = pick (from_to kinds.Equal kinds.AtLeast) (seq comparison_at (compared_at w e)) (pick (only kinds.Is) (after kinds.Is (null_test_at e)) (negated (range_at w e)))
 
@@ -243,11 +243,11 @@ pred_at w e = pick (from_to kinds.Equal kinds.AtLeast) (seq comparison_at (compa
 abbrev pub in_pred : Kinds
 in_pred = from_to kinds.Equal kinds.AtLeast ++ only kinds.Is ++ only kinds.Not ++ only kinds.In ++ only kinds.Between
 
--- behind e: a predicate, or nothing
+-- after e: a predicate, or nothing
 unfoldable pub may_pred : Readers → Expr → Reader Mixed
 may_pred w e = pick in_pred (made (λ c. inl c) (pred_at w e)) (give (inr e))
 
--- behind the parenthesis of a primary condition: nothing follows a condition, the rest of the expression and then what last
+-- after the parenthesis of a primary condition: nothing follows a condition, the rest of the expression and then what last
 -- reads follow an expression
 abbrev pub behind : {M : Type 0} → Readers → (Cond → M) → (Expr → Reader M) → Mixed → Reader M
 behind w f last (inl c) = give (f c)

@@ -5,7 +5,7 @@ ghost use Rattle.lb_readt.specs.Answering.{Gives};
 ghost use Rattle.lb_reade.specs.Expressions.{verified_texts_at, two_texts_at, shown_at, date_at, number_at, today_at, sign_at};
 
 use lb_base::{Name, Str};
-use lb_readt::{Read, column, day, int, negative, next_is, take, text, texts, with_first};
+use lb_readt::{Read, column, day, int, negative, take, take_if, text, texts};
 use lb_tok::{Kind, Token};
 use lb_tree::{Atom, Column, Expr};
 use sqlite_items::Items;
@@ -40,9 +40,7 @@ pub fn verified<'a>(alloc: Global, tokens: &'a [Token]) -> Read<'a, Items<Str>>
 {
     let rest = take(tokens, Kind::SessionUser)?;
     let rest = take(rest, Kind::Comma)?;
-    let (first, rest) = text(rest)?;
-    let (more, rest) = texts(alloc, rest)?;
-    Ok((with_first(alloc, first, more)?, rest))
+    texts(alloc, rest)
 }
 
 /// Reads two texts with a comma between them.
@@ -81,8 +79,7 @@ pub fn date<'a>(tokens: &'a [Token]) -> Read<'a, Expr>
 pub fn number<'a>(tokens: &'a [Token]) -> Read<'a, Expr>
     ensures { Gives (λ r. (r.0, r.1.now)) result (number_at tokens.now) }
 {
-    if next_is(tokens, Kind::Minus) {
-        let rest = take(tokens, Kind::Minus)?;
+    if let Some(rest) = take_if(tokens, Kind::Minus) {
         let (value, rest) = negative(rest)?;
         Ok((Expr::Atom(Atom::Int(value)), rest))
     } else {
@@ -96,8 +93,7 @@ pub fn number<'a>(tokens: &'a [Token]) -> Read<'a, Expr>
 pub fn today<'a>(tokens: &'a [Token]) -> Read<'a, Expr>
     ensures { Gives (λ r. (r.0, r.1.now)) result (today_at tokens.now) }
 {
-    if next_is(tokens, Kind::Current) {
-        let rest = take(tokens, Kind::Current)?;
+    if let Some(rest) = take_if(tokens, Kind::Current) {
         let rest = take(rest, Kind::Date)?;
         Ok((Expr::Atom(Atom::CurrentDate), rest))
     } else {
@@ -111,8 +107,7 @@ pub fn today<'a>(tokens: &'a [Token]) -> Read<'a, Expr>
 pub fn sign<'a>(tokens: &'a [Token]) -> Read<'a, bool>
     ensures { Gives (λ r. (r.0, r.1.now)) result (sign_at tokens.now) }
 {
-    if next_is(tokens, Kind::Plus) {
-        let rest = take(tokens, Kind::Plus)?;
+    if let Some(rest) = take_if(tokens, Kind::Plus) {
         Ok((false, rest))
     } else {
         let rest = take(tokens, Kind::Minus)?;

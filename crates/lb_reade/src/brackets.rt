@@ -11,7 +11,7 @@ use lb_tree::{Cond, Expr, Query};
 use std::alloc::Global;
 
 /// Opens brackets and reads what stands in them, where a certain number of brackets may still open.
-pub trait Brackets<'a> {
+pub trait Brackets {
     /// Whether a bracket may open, and what each kind of content is read by.
     ghost readers: { Self → Readers };
 
@@ -19,16 +19,16 @@ pub trait Brackets<'a> {
     ghost ready: { Self → Type 0 };
 
     /// Takes an opener, a parenthesis or CASE. `Bad` at another token, `Deep` at an opener for which no room is left.
-    fn open(&self, tokens: &'a [Token], kind: Kind) -> Result<&'a [Token], Fault<'a>>
+    fn open<'a>(&self, tokens: &'a [Token], kind: Kind) -> Result<&'a [Token], Fault<'a>>
         ensures { Gives (λ r. (tt, r.now)) result (open_at (readers self.now).room kind tokens.now) };
 
-    /// Reads what stands behind an opener that was taken, as the kind of content that is wanted.
-    fn inside(&self, alloc: Global, tokens: &'a [Token], wanted: Wanted) -> Read<'a, Inside>
+    /// Reads what stands after an opener that was taken, as the kind of content that is wanted.
+    fn inside<'a>(&self, alloc: Global, tokens: &'a [Token], wanted: Wanted) -> Read<'a, Inside>
         requires { ready self.now }
         ensures { Gives (λ r. (inner_of r.0, r.1.now)) result (within (readers self.now) wanted tokens.now) };
 
     /// Reads an expression in a bracket.
-    final fn expr(&self, alloc: Global, tokens: &'a [Token]) -> Read<'a, Expr>
+    final fn expr<'a>(&self, alloc: Global, tokens: &'a [Token]) -> Read<'a, Expr>
         requires { ready self.now }
         ensures { Gives (λ r. (r.0, r.1.now)) result ((readers self.now).expr tokens.now) }
     {
@@ -40,7 +40,7 @@ pub trait Brackets<'a> {
     }
 
     /// Reads a condition in a bracket.
-    final fn condition(&self, alloc: Global, tokens: &'a [Token]) -> Read<'a, Cond>
+    final fn condition<'a>(&self, alloc: Global, tokens: &'a [Token]) -> Read<'a, Cond>
         requires { ready self.now }
         ensures { Gives (λ r. (r.0, r.1.now)) result ((readers self.now).condition tokens.now) }
     {
@@ -52,7 +52,7 @@ pub trait Brackets<'a> {
     }
 
     /// Reads a condition in a bracket, or an expression with which a condition may begin.
-    final fn mixed(&self, alloc: Global, tokens: &'a [Token]) -> Read<'a, Mixed>
+    final fn mixed<'a>(&self, alloc: Global, tokens: &'a [Token]) -> Read<'a, Mixed>
         requires { ready self.now }
         ensures { Gives (λ r. (mixed_of r.0, r.1.now)) result ((readers self.now).mixed tokens.now) }
     {
@@ -65,7 +65,7 @@ pub trait Brackets<'a> {
     }
 
     /// Reads a query in a bracket.
-    final fn query(&self, alloc: Global, tokens: &'a [Token]) -> Read<'a, Query>
+    final fn query<'a>(&self, alloc: Global, tokens: &'a [Token]) -> Read<'a, Query>
         requires { ready self.now }
         ensures { Gives (λ r. (r.0, r.1.now)) result ((readers self.now).query tokens.now) }
     {

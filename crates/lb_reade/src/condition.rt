@@ -10,7 +10,7 @@ ghost use Rattle.lb_reade.specs.Expressions.{parens, null_test_at, set_at, range
 use crate::brackets::Brackets;
 use crate::expression::{expr, exprs, plain, rest_on};
 use crate::inside::{Mixed, Side};
-use lb_readt::{Read, comparison, next_is, next_is_comparison, take, with_first};
+use lb_readt::{Read, comparison, further, next_is, next_is_comparison, take, take_if, with_first};
 use lb_tok::{Kind, Token};
 use lb_tree::{Comparison, Cond, Expr};
 use sqlite_items::{Boxed, Items};
@@ -21,8 +21,7 @@ use std::alloc::Global;
 fn null_test<'a>(alloc: Global, tokens: &'a [Token], left: Expr) -> Read<'a, Cond>
     ensures { Gives (λ r. (r.0, r.1.now)) result (null_test_at left tokens.now) }
 {
-    if next_is(tokens, Kind::Not) {
-        let rest = take(tokens, Kind::Not)?;
+    if let Some(rest) = take_if(tokens, Kind::Not) {
         let rest = take(rest, Kind::Null)?;
         let test = Cond::IsNull(Boxed::new(alloc, left)?);
         Ok((Cond::Not(Boxed::new(alloc, test)?), rest))
@@ -34,7 +33,7 @@ fn null_test<'a>(alloc: Global, tokens: &'a [Token], left: Expr) -> Read<'a, Con
 
 // query | expr {, expr}
 #[tactic(auto, unfolding(crate::specs::Expressions::set_at))]
-fn set<'a, B: Brackets<'a>>(
+fn set<'a, B: Brackets>(
     alloc: Global,
     tokens: &'a [Token],
     brackets: &B,
@@ -48,15 +47,14 @@ fn set<'a, B: Brackets<'a>>(
         let (query, rest) = brackets.query(alloc, tokens)?;
         Ok((Cond::InQuery(left, Boxed::new(alloc, query)?), rest))
     } else {
-        let (first, rest) = brackets.expr(alloc, tokens)?;
-        let (more, rest) = exprs(alloc, rest, brackets)?;
-        Ok((Cond::InList(left, with_first(alloc, first, more)?), rest))
+        let (values, rest) = exprs(alloc, tokens, brackets)?;
+        Ok((Cond::InList(left, values), rest))
     }
 }
 
 // IN "(" (query | expr {, expr}) ")" | BETWEEN expr AND expr
 #[tactic(auto, unfolding(crate::specs::Expressions::range_at))]
-fn range<'a, B: Brackets<'a>>(
+fn range<'a, B: Brackets>(
     alloc: Global,
     tokens: &'a [Token],
     brackets: &B,
@@ -65,8 +63,7 @@ fn range<'a, B: Brackets<'a>>(
     requires { B.ready brackets.now }
     ensures { Gives (λ r. (r.0, r.1.now)) result (range_at (B.readers brackets.now) left tokens.now) }
 {
-    if next_is(tokens, Kind::In) {
-        let rest = take(tokens, Kind::In)?;
+    if let Some(rest) = take_if(tokens, Kind::In) {
         let rest = brackets.open(rest, Kind::Open)?;
         let (value, rest) = set(alloc, rest, brackets, left)?;
         let rest = take(rest, Kind::Close)?;
@@ -85,7 +82,7 @@ fn range<'a, B: Brackets<'a>>(
 
 // query | expr
 #[tactic(auto, unfolding(crate::specs::Expressions::side_at))]
-fn side<'a, B: Brackets<'a>>(alloc: Global, tokens: &'a [Token], brackets: &B) -> Read<'a, Side>
+fn side<'a, B: Brackets>(alloc: Global, tokens: &'a [Token], brackets: &B) -> Read<'a, Side>
     requires { B.ready brackets.now }
     ensures { Gives (λ r. (side_of r.0, r.1.now)) result (side_at (B.readers brackets.now) tokens.now) }
 {
@@ -98,9 +95,9 @@ fn side<'a, B: Brackets<'a>>(alloc: Global, tokens: &'a [Token], brackets: &B) -
     }
 }
 
-// "(" query ")" | expr, behind a comparison sign
+// "(" query ")" | expr, after a comparison sign
 #[tactic(auto, unfolding(crate::specs::Expressions::compared_at))]
-fn compared<'a, B: Brackets<'a>>(
+fn compared<'a, B: Brackets>(
     alloc: Global,
     tokens: &'a [Token],
     brackets: &B,
@@ -136,7 +133,7 @@ fn compared<'a, B: Brackets<'a>>(
 
 // pred = cmp .. | IS [NOT] NULL | [NOT] IN .. | [NOT] BETWEEN ..
 #[tactic(auto, unfolding(crate::specs::Expressions::pred_at))]
-fn pred<'a, B: Brackets<'a>>(
+fn pred<'a, B: Brackets>(
     alloc: Global,
     tokens: &'a [Token],
     brackets: &B,
@@ -148,11 +145,9 @@ fn pred<'a, B: Brackets<'a>>(
     if next_is_comparison(tokens) {
         let (comparison, rest) = comparison(tokens)?;
         compared(alloc, rest, brackets, left, comparison)
-    } else if next_is(tokens, Kind::Is) {
-        let rest = take(tokens, Kind::Is)?;
+    } else if let Some(rest) = take_if(tokens, Kind::Is) {
         null_test(alloc, rest, left)
-    } else if next_is(tokens, Kind::Not) {
-        let rest = take(tokens, Kind::Not)?;
+    } else if let Some(rest) = take_if(tokens, Kind::Not) {
         let (value, rest) = range(alloc, rest, brackets, left)?;
         Ok((Cond::Not(Boxed::new(alloc, value)?), rest))
     } else {
@@ -179,7 +174,7 @@ fn next_is_predicate(tokens: &[Token]) -> bool
 
 // What follows an expression in a parenthesis at the head of a condition: a predicate, or nothing.
 #[tactic(auto, unfolding(crate::specs::Expressions::may_pred))]
-fn may_pred<'a, B: Brackets<'a>>(
+fn may_pred<'a, B: Brackets>(
     alloc: Global,
     tokens: &'a [Token],
     brackets: &B,
@@ -198,7 +193,7 @@ fn may_pred<'a, B: Brackets<'a>>(
 
 // EXISTS "(" query ")"
 #[tactic(auto, unfolding(crate::specs::Expressions::exists_at))]
-fn exists<'a, B: Brackets<'a>>(alloc: Global, tokens: &'a [Token], brackets: &B) -> Read<'a, Cond>
+fn exists<'a, B: Brackets>(alloc: Global, tokens: &'a [Token], brackets: &B) -> Read<'a, Cond>
     requires { B.ready brackets.now }
     ensures { Gives (λ r. (r.0, r.1.now)) result (exists_at (B.readers brackets.now) tokens.now) }
 {
@@ -210,11 +205,7 @@ fn exists<'a, B: Brackets<'a>>(alloc: Global, tokens: &'a [Token], brackets: &B)
 }
 
 // A parenthesis at the head of a condition, with a condition or an expression in it.
-fn in_brackets<'a, B: Brackets<'a>>(
-    alloc: Global,
-    tokens: &'a [Token],
-    brackets: &B,
-) -> Read<'a, Mixed>
+fn in_brackets<'a, B: Brackets>(alloc: Global, tokens: &'a [Token], brackets: &B) -> Read<'a, Mixed>
     requires { B.ready brackets.now }
     ensures { Gives (λ r. (mixed_of r.0, r.1.now)) result (parens (B.readers brackets.now) (B.readers brackets.now).mixed tokens.now) }
 {
@@ -226,7 +217,7 @@ fn in_brackets<'a, B: Brackets<'a>>(
 
 // prim = "(" cond ")" | EXISTS "(" query ")" | expr pred
 #[tactic(auto, unfolding(crate::specs::Expressions::prim_at, crate::specs::Expressions::prim_with))]
-fn prim<'a, B: Brackets<'a>>(alloc: Global, tokens: &'a [Token], brackets: &B) -> Read<'a, Cond>
+fn prim<'a, B: Brackets>(alloc: Global, tokens: &'a [Token], brackets: &B) -> Read<'a, Cond>
     requires { B.ready brackets.now }
     ensures { Gives (λ r. (r.0, r.1.now)) result (prim_at (B.readers brackets.now) tokens.now) }
 {
@@ -250,11 +241,7 @@ fn prim<'a, B: Brackets<'a>>(alloc: Global, tokens: &'a [Token], brackets: &B) -
 
 // prim, or an expression with which one may begin
 #[tactic(auto, unfolding(crate::specs::Expressions::may_prim, crate::specs::Expressions::prim_with))]
-fn may_prim<'a, B: Brackets<'a>>(
-    alloc: Global,
-    tokens: &'a [Token],
-    brackets: &B,
-) -> Read<'a, Mixed>
+fn may_prim<'a, B: Brackets>(alloc: Global, tokens: &'a [Token], brackets: &B) -> Read<'a, Mixed>
     requires { B.ready brackets.now }
     ensures { Gives (λ r. (mixed_of r.0, r.1.now)) result (may_prim (B.readers brackets.now) tokens.now) }
 {
@@ -279,12 +266,11 @@ fn may_prim<'a, B: Brackets<'a>>(
 
 // neg = [NOT] prim
 #[tactic(auto, unfolding(crate::specs::Expressions::neg_at))]
-fn neg<'a, B: Brackets<'a>>(alloc: Global, tokens: &'a [Token], brackets: &B) -> Read<'a, Cond>
+fn neg<'a, B: Brackets>(alloc: Global, tokens: &'a [Token], brackets: &B) -> Read<'a, Cond>
     requires { B.ready brackets.now }
     ensures { Gives (λ r. (r.0, r.1.now)) result (neg_at (B.readers brackets.now) tokens.now) }
 {
-    if next_is(tokens, Kind::Not) {
-        let rest = take(tokens, Kind::Not)?;
+    if let Some(rest) = take_if(tokens, Kind::Not) {
         let (value, rest) = prim(alloc, rest, brackets)?;
         Ok((Cond::Not(Boxed::new(alloc, value)?), rest))
     } else {
@@ -294,12 +280,11 @@ fn neg<'a, B: Brackets<'a>>(alloc: Global, tokens: &'a [Token], brackets: &B) ->
 
 // neg, or an expression with which one may begin
 #[tactic(auto, unfolding(crate::specs::Expressions::may_neg))]
-fn may_neg<'a, B: Brackets<'a>>(alloc: Global, tokens: &'a [Token], brackets: &B) -> Read<'a, Mixed>
+fn may_neg<'a, B: Brackets>(alloc: Global, tokens: &'a [Token], brackets: &B) -> Read<'a, Mixed>
     requires { B.ready brackets.now }
     ensures { Gives (λ r. (mixed_of r.0, r.1.now)) result (may_neg (B.readers brackets.now) tokens.now) }
 {
-    if next_is(tokens, Kind::Not) {
-        let rest = take(tokens, Kind::Not)?;
+    if let Some(rest) = take_if(tokens, Kind::Not) {
         let (value, rest) = prim(alloc, rest, brackets)?;
         Ok((Mixed::Cond(Cond::Not(Boxed::new(alloc, value)?)), rest))
     } else {
@@ -308,32 +293,16 @@ fn may_neg<'a, B: Brackets<'a>>(alloc: Global, tokens: &'a [Token], brackets: &B
 }
 
 // {AND neg}
-fn negs<'a, B: Brackets<'a>>(
-    alloc: Global,
-    tokens: &'a [Token],
-    brackets: &B,
-) -> Read<'a, Items<Cond>>
+fn negs<'a, B: Brackets>(alloc: Global, tokens: &'a [Token], brackets: &B) -> Read<'a, Items<Cond>>
     requires { B.ready brackets.now }
     ensures { Gives (λ r. (r.0, r.1.now)) result (many (only kinds.And) (after kinds.And (neg_at (B.readers brackets.now))) tokens.now) }
 {
-    let mut parts = Items::new(alloc);
-    let mut rest = tokens;
-    for _ in 0..tokens.len() {
-        if next_is(rest, Kind::And) {
-            let after = take(rest, Kind::And)?;
-            let (part, after) = neg(alloc, after, brackets)?;
-            parts.push(part)?;
-            rest = after;
-        } else {
-            return Ok((parts, rest));
-        }
-    }
-    Ok((parts, rest))
+    further(alloc, tokens, Kind::And, |rest| neg(alloc, rest, brackets))
 }
 
-// The rest of conj behind its first part, which alone makes no list.
+// The rest of conj after its first part, which alone makes no list.
 #[tactic(auto, unfolding(crate::specs::Expressions::and_on))]
-fn and_on<'a, B: Brackets<'a>>(
+fn and_on<'a, B: Brackets>(
     alloc: Global,
     tokens: &'a [Token],
     brackets: &B,
@@ -352,7 +321,7 @@ fn and_on<'a, B: Brackets<'a>>(
 
 // conj = neg {AND neg}
 #[tactic(auto, unfolding(crate::specs::Expressions::conj_at))]
-fn conj<'a, B: Brackets<'a>>(alloc: Global, tokens: &'a [Token], brackets: &B) -> Read<'a, Cond>
+fn conj<'a, B: Brackets>(alloc: Global, tokens: &'a [Token], brackets: &B) -> Read<'a, Cond>
     requires { B.ready brackets.now }
     ensures { Gives (λ r. (r.0, r.1.now)) result (conj_at (B.readers brackets.now) tokens.now) }
 {
@@ -361,32 +330,16 @@ fn conj<'a, B: Brackets<'a>>(alloc: Global, tokens: &'a [Token], brackets: &B) -
 }
 
 // {OR conj}
-fn conjs<'a, B: Brackets<'a>>(
-    alloc: Global,
-    tokens: &'a [Token],
-    brackets: &B,
-) -> Read<'a, Items<Cond>>
+fn conjs<'a, B: Brackets>(alloc: Global, tokens: &'a [Token], brackets: &B) -> Read<'a, Items<Cond>>
     requires { B.ready brackets.now }
     ensures { Gives (λ r. (r.0, r.1.now)) result (many (only kinds.Or) (after kinds.Or (conj_at (B.readers brackets.now))) tokens.now) }
 {
-    let mut parts = Items::new(alloc);
-    let mut rest = tokens;
-    for _ in 0..tokens.len() {
-        if next_is(rest, Kind::Or) {
-            let after = take(rest, Kind::Or)?;
-            let (part, after) = conj(alloc, after, brackets)?;
-            parts.push(part)?;
-            rest = after;
-        } else {
-            return Ok((parts, rest));
-        }
-    }
-    Ok((parts, rest))
+    further(alloc, tokens, Kind::Or, |rest| conj(alloc, rest, brackets))
 }
 
-// The rest of cond behind its first part, which alone makes no list.
+// The rest of cond after its first part, which alone makes no list.
 #[tactic(auto, unfolding(crate::specs::Expressions::or_on))]
-fn or_on<'a, B: Brackets<'a>>(
+fn or_on<'a, B: Brackets>(
     alloc: Global,
     tokens: &'a [Token],
     brackets: &B,
@@ -405,7 +358,7 @@ fn or_on<'a, B: Brackets<'a>>(
 
 /// Reads a condition, `conj {OR conj}` of the grammar. `Bad` where the tokens spell none.
 #[tactic(auto, unfolding(crate::specs::Expressions::cond_at))]
-pub fn cond<'a, B: Brackets<'a>>(alloc: Global, tokens: &'a [Token], brackets: &B) -> Read<'a, Cond>
+pub fn cond<'a, B: Brackets>(alloc: Global, tokens: &'a [Token], brackets: &B) -> Read<'a, Cond>
     requires { B.ready brackets.now }
     ensures { Gives (λ r. (r.0, r.1.now)) result (cond_at (B.readers brackets.now) tokens.now) }
 {
@@ -416,11 +369,7 @@ pub fn cond<'a, B: Brackets<'a>>(alloc: Global, tokens: &'a [Token], brackets: &
 /// Reads what stands in a parenthesis at the head of a condition: a condition, or an expression with which one may begin.
 /// Both are read in one pass, so that an error stands where neither goes on.
 #[tactic(auto, unfolding(crate::specs::Expressions::mixed_at))]
-pub fn mixed<'a, B: Brackets<'a>>(
-    alloc: Global,
-    tokens: &'a [Token],
-    brackets: &B,
-) -> Read<'a, Mixed>
+pub fn mixed<'a, B: Brackets>(alloc: Global, tokens: &'a [Token], brackets: &B) -> Read<'a, Mixed>
     requires { B.ready brackets.now }
     ensures { Gives (λ r. (mixed_of r.0, r.1.now)) result (mixed_at (B.readers brackets.now) tokens.now) }
 {

@@ -3,18 +3,21 @@ ghost use Rattle.std.specs.Prelude.{◌≡◌, ◌<◌, ◌∷◌, IfOk, Some, N
 ghost use Rattle.lb_tok.specs.Kinds.{only};
 ghost use Rattle.lb_tree.specs.declared.query.Expr.TheVariants as exprs;
 ghost use Rattle.lb_tok.specs.declared.kind.Kind.TheVariants as kinds;
-ghost use Rattle.lb_readt.specs.Readers.{heads, many, after, commas};
+ghost use Rattle.lb_readt.specs.Readers.{heads, many, after, listed};
 ghost use Rattle.lb_readt.specs.Answering.{Gives};
 ghost use Rattle.lb_reade.specs.Expressions.{parens, arm_at, choice_at, else_at, in_case_at, case_at, counted_at, parted_at, last_part_at, first_of_at, in_arguments_at, arguments_at, begins_arguments, called_at, named_at, literal_at, plain_at, fact_at, product_on, term_at, concat_on, concat_at, signed_at, signs, sum_on, expr_at, rest_at};
 
 use crate::atom::{column_alone, column_of, date, number, shown, sign, today, two_texts, verified};
 use crate::brackets::Brackets;
 use lb_base::Name;
-use lb_readt::{Read, name, next_is, next_is_either, next_is_name, take, text, with_first, word};
+use lb_readt::{
+    Read, further, listed, many, name, next_is, next_is_either, next_is_name, take, take_if, text,
+    with_first, word,
+};
 use lb_tok::{Call, Kind, Token};
 use lb_tree::{Aggregate, Arm, Atom, Choice, Expr, Signed};
 use sqlite_items::{Boxed, Items};
-use std::alloc::{AllocError, Global};
+use std::alloc::Global;
 
 // Whether the next token begins the arguments of the function.
 #[tactic(auto, unfolding(crate::specs::Expressions::begins_arguments))]
@@ -30,7 +33,7 @@ fn begins_arguments(tokens: &[Token], call: Call) -> bool
 
 // WHEN cond THEN expr
 #[tactic(auto, unfolding(crate::specs::Expressions::arm_at))]
-fn arm<'a, B: Brackets<'a>>(alloc: Global, tokens: &'a [Token], brackets: &B) -> Read<'a, Arm>
+fn arm<'a, B: Brackets>(alloc: Global, tokens: &'a [Token], brackets: &B) -> Read<'a, Arm>
     requires { B.ready brackets.now }
     ensures { Gives (λ r. (r.0, r.1.now)) result (arm_at (B.readers brackets.now) tokens.now) }
 {
@@ -42,31 +45,21 @@ fn arm<'a, B: Brackets<'a>>(alloc: Global, tokens: &'a [Token], brackets: &B) ->
 }
 
 // {WHEN cond THEN expr}
-fn arms<'a, B: Brackets<'a>>(
-    alloc: Global,
-    tokens: &'a [Token],
-    brackets: &B,
-) -> Read<'a, Items<Arm>>
+fn arms<'a, B: Brackets>(alloc: Global, tokens: &'a [Token], brackets: &B) -> Read<'a, Items<Arm>>
     requires { B.ready brackets.now }
     ensures { Gives (λ r. (r.0, r.1.now)) result (many (only kinds.When) (arm_at (B.readers brackets.now)) tokens.now) }
 {
-    let mut parts = Items::new(alloc);
-    let mut rest = tokens;
-    for _ in 0..tokens.len() {
-        if next_is(rest, Kind::When) {
-            let (part, after) = arm(alloc, rest, brackets)?;
-            parts.push(part)?;
-            rest = after;
-        } else {
-            return Ok((parts, rest));
-        }
-    }
-    Ok((parts, rest))
+    many(
+        alloc,
+        tokens,
+        |rest| next_is(rest, Kind::When),
+        |rest| arm(alloc, rest, brackets),
+    )
 }
 
 // WHEN expr THEN expr
 #[tactic(auto, unfolding(crate::specs::Expressions::choice_at))]
-fn choice<'a, B: Brackets<'a>>(alloc: Global, tokens: &'a [Token], brackets: &B) -> Read<'a, Choice>
+fn choice<'a, B: Brackets>(alloc: Global, tokens: &'a [Token], brackets: &B) -> Read<'a, Choice>
     requires { B.ready brackets.now }
     ensures { Gives (λ r. (r.0, r.1.now)) result (choice_at (B.readers brackets.now) tokens.now) }
 {
@@ -78,7 +71,7 @@ fn choice<'a, B: Brackets<'a>>(alloc: Global, tokens: &'a [Token], brackets: &B)
 }
 
 // {WHEN expr THEN expr}
-fn choices<'a, B: Brackets<'a>>(
+fn choices<'a, B: Brackets>(
     alloc: Global,
     tokens: &'a [Token],
     brackets: &B,
@@ -86,23 +79,17 @@ fn choices<'a, B: Brackets<'a>>(
     requires { B.ready brackets.now }
     ensures { Gives (λ r. (r.0, r.1.now)) result (many (only kinds.When) (choice_at (B.readers brackets.now)) tokens.now) }
 {
-    let mut parts = Items::new(alloc);
-    let mut rest = tokens;
-    for _ in 0..tokens.len() {
-        if next_is(rest, Kind::When) {
-            let (part, after) = choice(alloc, rest, brackets)?;
-            parts.push(part)?;
-            rest = after;
-        } else {
-            return Ok((parts, rest));
-        }
-    }
-    Ok((parts, rest))
+    many(
+        alloc,
+        tokens,
+        |rest| next_is(rest, Kind::When),
+        |rest| choice(alloc, rest, brackets),
+    )
 }
 
 // [ELSE expr]
 #[tactic(auto, unfolding(crate::specs::Expressions::else_at))]
-fn otherwise<'a, B: Brackets<'a>>(
+fn otherwise<'a, B: Brackets>(
     alloc: Global,
     tokens: &'a [Token],
     brackets: &B,
@@ -110,8 +97,7 @@ fn otherwise<'a, B: Brackets<'a>>(
     requires { B.ready brackets.now }
     ensures { Gives (λ r. (r.0, r.1.now)) result (else_at (B.readers brackets.now) tokens.now) }
 {
-    if next_is(tokens, Kind::Else) {
-        let rest = take(tokens, Kind::Else)?;
+    if let Some(rest) = take_if(tokens, Kind::Else) {
         let (value, rest) = brackets.expr(alloc, rest)?;
         Ok((Some(Boxed::new(alloc, value)?), rest))
     } else {
@@ -121,7 +107,7 @@ fn otherwise<'a, B: Brackets<'a>>(
 
 // What stands between CASE and END.
 #[tactic(auto, unfolding(crate::specs::Expressions::in_case_at, crate::specs::Expressions::arms_at, crate::specs::Expressions::choices_at))]
-fn in_case<'a, B: Brackets<'a>>(alloc: Global, tokens: &'a [Token], brackets: &B) -> Read<'a, Expr>
+fn in_case<'a, B: Brackets>(alloc: Global, tokens: &'a [Token], brackets: &B) -> Read<'a, Expr>
     requires { B.ready brackets.now }
     ensures { Gives (λ r. (r.0, r.1.now)) result (in_case_at (B.readers brackets.now) tokens.now) }
 {
@@ -145,7 +131,7 @@ fn in_case<'a, B: Brackets<'a>>(alloc: Global, tokens: &'a [Token], brackets: &B
 
 /// Reads a CASE expression, searched or simple. `Deep` at CASE where no bracket may open.
 #[tactic(auto, unfolding(crate::specs::Expressions::case_at))]
-pub fn case<'a, B: Brackets<'a>>(alloc: Global, tokens: &'a [Token], brackets: &B) -> Read<'a, Expr>
+pub fn case<'a, B: Brackets>(alloc: Global, tokens: &'a [Token], brackets: &B) -> Read<'a, Expr>
     requires { B.ready brackets.now }
     ensures { Gives (λ r. (r.0, r.1.now)) result (case_at (B.readers brackets.now) tokens.now) }
 {
@@ -157,15 +143,13 @@ pub fn case<'a, B: Brackets<'a>>(alloc: Global, tokens: &'a [Token], brackets: &
 
 // * | [DISTINCT] expr
 #[tactic(auto, unfolding(crate::specs::Expressions::counted_at))]
-fn counted<'a, B: Brackets<'a>>(alloc: Global, tokens: &'a [Token], brackets: &B) -> Read<'a, Expr>
+fn counted<'a, B: Brackets>(alloc: Global, tokens: &'a [Token], brackets: &B) -> Read<'a, Expr>
     requires { B.ready brackets.now }
     ensures { Gives (λ r. (r.0, r.1.now)) result (counted_at (B.readers brackets.now) tokens.now) }
 {
-    if next_is(tokens, Kind::Star) {
-        let rest = take(tokens, Kind::Star)?;
+    if let Some(rest) = take_if(tokens, Kind::Star) {
         Ok((Expr::Atom(Atom::CountRows), rest))
-    } else if next_is(tokens, Kind::Distinct) {
-        let rest = take(tokens, Kind::Distinct)?;
+    } else if let Some(rest) = take_if(tokens, Kind::Distinct) {
         let (value, rest) = brackets.expr(alloc, rest)?;
         let value = Boxed::new(alloc, value)?;
         Ok((Expr::Aggregate(Aggregate::CountDistinct, value), rest))
@@ -178,7 +162,7 @@ fn counted<'a, B: Brackets<'a>>(alloc: Global, tokens: &'a [Token], brackets: &B
 
 // expr , expr [, expr]
 #[tactic(auto, unfolding(crate::specs::Expressions::parted_at, crate::specs::Expressions::last_part_at))]
-fn parted<'a, B: Brackets<'a>>(alloc: Global, tokens: &'a [Token], brackets: &B) -> Read<'a, Expr>
+fn parted<'a, B: Brackets>(alloc: Global, tokens: &'a [Token], brackets: &B) -> Read<'a, Expr>
     requires { B.ready brackets.now }
     ensures { Gives (λ r. (r.0, r.1.now)) result (parted_at (B.readers brackets.now) tokens.now) }
 {
@@ -193,7 +177,7 @@ fn parted<'a, B: Brackets<'a>>(alloc: Global, tokens: &'a [Token], brackets: &B)
 
 // [, expr]
 #[tactic(auto, unfolding(crate::specs::Expressions::last_part_at))]
-fn last_part<'a, B: Brackets<'a>>(
+fn last_part<'a, B: Brackets>(
     alloc: Global,
     tokens: &'a [Token],
     brackets: &B,
@@ -201,8 +185,7 @@ fn last_part<'a, B: Brackets<'a>>(
     requires { B.ready brackets.now }
     ensures { Gives (λ r. (r.0, r.1.now)) result (last_part_at (B.readers brackets.now) tokens.now) }
 {
-    if next_is(tokens, Kind::Comma) {
-        let rest = take(tokens, Kind::Comma)?;
+    if let Some(rest) = take_if(tokens, Kind::Comma) {
         let (value, rest) = brackets.expr(alloc, rest)?;
         Ok((Some(Boxed::new(alloc, value)?), rest))
     } else {
@@ -212,34 +195,19 @@ fn last_part<'a, B: Brackets<'a>>(
 
 // expr , expr {, expr}
 #[tactic(auto, unfolding(crate::specs::Expressions::first_of_at))]
-fn first_of<'a, B: Brackets<'a>>(alloc: Global, tokens: &'a [Token], brackets: &B) -> Read<'a, Expr>
+fn first_of<'a, B: Brackets>(alloc: Global, tokens: &'a [Token], brackets: &B) -> Read<'a, Expr>
     requires { B.ready brackets.now }
     ensures { Gives (λ r. (r.0, r.1.now)) result (first_of_at (B.readers brackets.now) tokens.now) }
 {
     let (first, rest) = brackets.expr(alloc, tokens)?;
     let rest = take(rest, Kind::Comma)?;
-    let (second, rest) = brackets.expr(alloc, rest)?;
-    let (more, rest) = exprs(alloc, rest, brackets)?;
-    Ok((coalesced(alloc, first, second, more)?, rest))
-}
-
-// COALESCE of two expressions and more.
-fn coalesced(
-    alloc: Global,
-    first: Expr,
-    second: Expr,
-    more: Items<Expr>,
-) -> Result<Expr, AllocError>
-    ensures { IfOk result (λ e. e ≡ exprs.Coalesce (first ∷ second ∷ more)) }
-{
-    let more = with_first(alloc, second, more)?;
-    let all = with_first(alloc, first, more)?;
-    Ok(Expr::Coalesce(all))
+    let (others, rest) = exprs(alloc, rest, brackets)?;
+    Ok((Expr::Coalesce(with_first(alloc, first, others)?), rest))
 }
 
 // What stands between the parentheses of a call.
 #[tactic(auto, unfolding(crate::specs::Expressions::in_arguments_at))]
-fn in_arguments<'a, B: Brackets<'a>>(
+fn in_arguments<'a, B: Brackets>(
     alloc: Global,
     tokens: &'a [Token],
     brackets: &B,
@@ -282,7 +250,7 @@ fn in_arguments<'a, B: Brackets<'a>>(
 }
 
 // "(" .. ")" of a call
-fn in_call<'a, B: Brackets<'a>>(
+fn in_call<'a, B: Brackets>(
     alloc: Global,
     tokens: &'a [Token],
     brackets: &B,
@@ -299,7 +267,7 @@ fn in_call<'a, B: Brackets<'a>>(
 
 // What follows the name of a function.
 #[tactic(auto, unfolding(crate::specs::Expressions::arguments_at))]
-fn arguments<'a, B: Brackets<'a>>(
+fn arguments<'a, B: Brackets>(
     alloc: Global,
     tokens: &'a [Token],
     brackets: &B,
@@ -322,7 +290,7 @@ fn arguments<'a, B: Brackets<'a>>(
 /// Reads what follows a name that no point follows: the arguments of the function that it names, or nothing. A name that
 /// names no function (`call` is `None`), or that no arguments follow, is a column.
 #[tactic(auto, unfolding(crate::specs::Expressions::called_at))]
-pub fn called<'a, B: Brackets<'a>>(
+pub fn called<'a, B: Brackets>(
     alloc: Global,
     tokens: &'a [Token],
     brackets: &B,
@@ -346,13 +314,12 @@ pub fn called<'a, B: Brackets<'a>>(
 
 // col | call
 #[tactic(auto, unfolding(crate::specs::Expressions::named_at, crate::specs::Expressions::named_on))]
-fn named<'a, B: Brackets<'a>>(alloc: Global, tokens: &'a [Token], brackets: &B) -> Read<'a, Expr>
+fn named<'a, B: Brackets>(alloc: Global, tokens: &'a [Token], brackets: &B) -> Read<'a, Expr>
     requires { B.ready brackets.now }
     ensures { Gives (λ r. (r.0, r.1.now)) result (named_at (B.readers brackets.now) tokens.now) }
 {
     let (call, first, rest) = word(tokens)?;
-    if next_is(rest, Kind::Dot) {
-        let rest = take(rest, Kind::Dot)?;
+    if let Some(rest) = take_if(rest, Kind::Dot) {
         let (name, rest) = name(rest)?;
         Ok((column_of(first, name)?, rest))
     } else {
@@ -363,16 +330,11 @@ fn named<'a, B: Brackets<'a>>(alloc: Global, tokens: &'a [Token], brackets: &B) 
 /// Reads a factor that begins with neither a name nor a parenthesis: NULL, an integer, a text, the current date, SESSION_USER
 /// or a CASE expression.
 #[tactic(auto, unfolding(crate::specs::Expressions::literal_at))]
-pub fn literal<'a, B: Brackets<'a>>(
-    alloc: Global,
-    tokens: &'a [Token],
-    brackets: &B,
-) -> Read<'a, Expr>
+pub fn literal<'a, B: Brackets>(alloc: Global, tokens: &'a [Token], brackets: &B) -> Read<'a, Expr>
     requires { B.ready brackets.now }
     ensures { Gives (λ r. (r.0, r.1.now)) result (literal_at (B.readers brackets.now) tokens.now) }
 {
-    if next_is(tokens, Kind::Null) {
-        let rest = take(tokens, Kind::Null)?;
+    if let Some(rest) = take_if(tokens, Kind::Null) {
         Ok((Expr::Atom(Atom::Null), rest))
     } else if next_is_either(tokens, Kind::Minus, Kind::Numeral) {
         number(tokens)
@@ -381,8 +343,7 @@ pub fn literal<'a, B: Brackets<'a>>(
         Ok((Expr::Atom(Atom::Text(text)), rest))
     } else if next_is_either(tokens, Kind::Current, Kind::CurrentDate) {
         today(tokens)
-    } else if next_is(tokens, Kind::SessionUser) {
-        let rest = take(tokens, Kind::SessionUser)?;
+    } else if let Some(rest) = take_if(tokens, Kind::SessionUser) {
         Ok((Expr::Atom(Atom::SessionUser), rest))
     } else {
         case(alloc, tokens, brackets)
@@ -391,11 +352,7 @@ pub fn literal<'a, B: Brackets<'a>>(
 
 /// Reads a factor that begins with no parenthesis: a column, a call or a literal.
 #[tactic(auto, unfolding(crate::specs::Expressions::plain_at))]
-pub fn plain<'a, B: Brackets<'a>>(
-    alloc: Global,
-    tokens: &'a [Token],
-    brackets: &B,
-) -> Read<'a, Expr>
+pub fn plain<'a, B: Brackets>(alloc: Global, tokens: &'a [Token], brackets: &B) -> Read<'a, Expr>
     requires { B.ready brackets.now }
     ensures { Gives (λ r. (r.0, r.1.now)) result (plain_at (B.readers brackets.now) tokens.now) }
 {
@@ -407,7 +364,7 @@ pub fn plain<'a, B: Brackets<'a>>(
 }
 
 /// Reads an expression in parentheses. `Deep` at the opener where no bracket may open.
-pub fn in_parens<'a, B: Brackets<'a>>(
+pub fn in_parens<'a, B: Brackets>(
     alloc: Global,
     tokens: &'a [Token],
     brackets: &B,
@@ -423,7 +380,7 @@ pub fn in_parens<'a, B: Brackets<'a>>(
 
 // fact = "(" expr ")" | col | call | ..
 #[tactic(auto, unfolding(crate::specs::Expressions::fact_at))]
-fn fact<'a, B: Brackets<'a>>(alloc: Global, tokens: &'a [Token], brackets: &B) -> Read<'a, Expr>
+fn fact<'a, B: Brackets>(alloc: Global, tokens: &'a [Token], brackets: &B) -> Read<'a, Expr>
     requires { B.ready brackets.now }
     ensures { Gives (λ r. (r.0, r.1.now)) result (fact_at (B.readers brackets.now) tokens.now) }
 {
@@ -435,7 +392,7 @@ fn fact<'a, B: Brackets<'a>>(alloc: Global, tokens: &'a [Token], brackets: &B) -
 }
 
 // {* fact}
-fn factors<'a, B: Brackets<'a>>(
+fn factors<'a, B: Brackets>(
     alloc: Global,
     tokens: &'a [Token],
     brackets: &B,
@@ -443,24 +400,17 @@ fn factors<'a, B: Brackets<'a>>(
     requires { B.ready brackets.now }
     ensures { Gives (λ r. (r.0, r.1.now)) result (many (only kinds.Star) (after kinds.Star (fact_at (B.readers brackets.now))) tokens.now) }
 {
-    let mut parts = Items::new(alloc);
-    let mut rest = tokens;
-    for _ in 0..tokens.len() {
-        if next_is(rest, Kind::Star) {
-            let after = take(rest, Kind::Star)?;
-            let (part, after) = fact(alloc, after, brackets)?;
-            parts.push(part)?;
-            rest = after;
-        } else {
-            return Ok((parts, rest));
-        }
-    }
-    Ok((parts, rest))
+    further(
+        alloc,
+        tokens,
+        Kind::Star,
+        |rest| fact(alloc, rest, brackets),
+    )
 }
 
-// The rest of term behind its first part, which alone makes no list.
+// The rest of term after its first part, which alone makes no list.
 #[tactic(auto, unfolding(crate::specs::Expressions::product_on))]
-fn product_on<'a, B: Brackets<'a>>(
+fn product_on<'a, B: Brackets>(
     alloc: Global,
     tokens: &'a [Token],
     brackets: &B,
@@ -479,7 +429,7 @@ fn product_on<'a, B: Brackets<'a>>(
 
 // term = fact {* fact}
 #[tactic(auto, unfolding(crate::specs::Expressions::term_at))]
-fn term<'a, B: Brackets<'a>>(alloc: Global, tokens: &'a [Token], brackets: &B) -> Read<'a, Expr>
+fn term<'a, B: Brackets>(alloc: Global, tokens: &'a [Token], brackets: &B) -> Read<'a, Expr>
     requires { B.ready brackets.now }
     ensures { Gives (λ r. (r.0, r.1.now)) result (term_at (B.readers brackets.now) tokens.now) }
 {
@@ -488,7 +438,7 @@ fn term<'a, B: Brackets<'a>>(alloc: Global, tokens: &'a [Token], brackets: &B) -
 }
 
 // {"||" term}
-fn pieces<'a, B: Brackets<'a>>(
+fn pieces<'a, B: Brackets>(
     alloc: Global,
     tokens: &'a [Token],
     brackets: &B,
@@ -496,24 +446,17 @@ fn pieces<'a, B: Brackets<'a>>(
     requires { B.ready brackets.now }
     ensures { Gives (λ r. (r.0, r.1.now)) result (many (only kinds.Bars) (after kinds.Bars (term_at (B.readers brackets.now))) tokens.now) }
 {
-    let mut parts = Items::new(alloc);
-    let mut rest = tokens;
-    for _ in 0..tokens.len() {
-        if next_is(rest, Kind::Bars) {
-            let after = take(rest, Kind::Bars)?;
-            let (part, after) = term(alloc, after, brackets)?;
-            parts.push(part)?;
-            rest = after;
-        } else {
-            return Ok((parts, rest));
-        }
-    }
-    Ok((parts, rest))
+    further(
+        alloc,
+        tokens,
+        Kind::Bars,
+        |rest| term(alloc, rest, brackets),
+    )
 }
 
-// The rest of cat behind its first part, which alone makes no list.
+// The rest of cat after its first part, which alone makes no list.
 #[tactic(auto, unfolding(crate::specs::Expressions::concat_on))]
-fn concat_on<'a, B: Brackets<'a>>(
+fn concat_on<'a, B: Brackets>(
     alloc: Global,
     tokens: &'a [Token],
     brackets: &B,
@@ -532,7 +475,7 @@ fn concat_on<'a, B: Brackets<'a>>(
 
 // cat = term {"||" term}
 #[tactic(auto, unfolding(crate::specs::Expressions::concat_at))]
-fn concat<'a, B: Brackets<'a>>(alloc: Global, tokens: &'a [Token], brackets: &B) -> Read<'a, Expr>
+fn concat<'a, B: Brackets>(alloc: Global, tokens: &'a [Token], brackets: &B) -> Read<'a, Expr>
     requires { B.ready brackets.now }
     ensures { Gives (λ r. (r.0, r.1.now)) result (concat_at (B.readers brackets.now) tokens.now) }
 {
@@ -542,7 +485,7 @@ fn concat<'a, B: Brackets<'a>>(alloc: Global, tokens: &'a [Token], brackets: &B)
 
 // (+ | -) cat
 #[tactic(auto, unfolding(crate::specs::Expressions::signed_at))]
-fn signed<'a, B: Brackets<'a>>(alloc: Global, tokens: &'a [Token], brackets: &B) -> Read<'a, Signed>
+fn signed<'a, B: Brackets>(alloc: Global, tokens: &'a [Token], brackets: &B) -> Read<'a, Signed>
     requires { B.ready brackets.now }
     ensures { Gives (λ r. (r.0, r.1.now)) result (signed_at (B.readers brackets.now) tokens.now) }
 {
@@ -552,7 +495,7 @@ fn signed<'a, B: Brackets<'a>>(alloc: Global, tokens: &'a [Token], brackets: &B)
 }
 
 // {(+ | -) cat}
-fn summands<'a, B: Brackets<'a>>(
+fn summands<'a, B: Brackets>(
     alloc: Global,
     tokens: &'a [Token],
     brackets: &B,
@@ -560,23 +503,17 @@ fn summands<'a, B: Brackets<'a>>(
     requires { B.ready brackets.now }
     ensures { Gives (λ r. (r.0, r.1.now)) result (many signs (signed_at (B.readers brackets.now)) tokens.now) }
 {
-    let mut parts = Items::new(alloc);
-    let mut rest = tokens;
-    for _ in 0..tokens.len() {
-        if next_is_either(rest, Kind::Plus, Kind::Minus) {
-            let (part, after) = signed(alloc, rest, brackets)?;
-            parts.push(part)?;
-            rest = after;
-        } else {
-            return Ok((parts, rest));
-        }
-    }
-    Ok((parts, rest))
+    many(
+        alloc,
+        tokens,
+        |rest| next_is_either(rest, Kind::Plus, Kind::Minus),
+        |rest| signed(alloc, rest, brackets),
+    )
 }
 
-// The rest of expr behind its first part, which alone makes no list.
+// The rest of expr after its first part, which alone makes no list.
 #[tactic(auto, unfolding(crate::specs::Expressions::sum_on))]
-fn sum_on<'a, B: Brackets<'a>>(
+fn sum_on<'a, B: Brackets>(
     alloc: Global,
     tokens: &'a [Token],
     brackets: &B,
@@ -599,7 +536,7 @@ fn sum_on<'a, B: Brackets<'a>>(
 
 /// Reads an expression, `cat {(+ | -) cat}` of the grammar. `Bad` where the tokens spell none.
 #[tactic(auto, unfolding(crate::specs::Expressions::expr_at))]
-pub fn expr<'a, B: Brackets<'a>>(alloc: Global, tokens: &'a [Token], brackets: &B) -> Read<'a, Expr>
+pub fn expr<'a, B: Brackets>(alloc: Global, tokens: &'a [Token], brackets: &B) -> Read<'a, Expr>
     requires { B.ready brackets.now }
     ensures { Gives (λ r. (r.0, r.1.now)) result (expr_at (B.readers brackets.now) tokens.now) }
 {
@@ -607,9 +544,9 @@ pub fn expr<'a, B: Brackets<'a>>(alloc: Global, tokens: &'a [Token], brackets: &
     sum_on(alloc, rest, brackets, first)
 }
 
-/// Reads the rest of an expression behind its first factor, which is given.
+/// Reads the rest of an expression after its first factor, which is given.
 #[tactic(auto, unfolding(crate::specs::Expressions::rest_at))]
-pub fn rest_on<'a, B: Brackets<'a>>(
+pub fn rest_on<'a, B: Brackets>(
     alloc: Global,
     tokens: &'a [Token],
     brackets: &B,
@@ -623,26 +560,14 @@ pub fn rest_on<'a, B: Brackets<'a>>(
     sum_on(alloc, rest, brackets, first)
 }
 
-/// Reads `{, expr}` in a bracket: further expressions, each behind a comma; none where no comma comes next.
-pub fn exprs<'a, B: Brackets<'a>>(
+/// Reads `expr {, expr}` in a bracket. `Bad` where no expression stands first or after a comma.
+pub fn exprs<'a, B: Brackets>(
     alloc: Global,
     tokens: &'a [Token],
     brackets: &B,
 ) -> Read<'a, Items<Expr>>
     requires { B.ready brackets.now }
-    ensures { Gives (λ r. (r.0, r.1.now)) result (commas (B.readers brackets.now).expr tokens.now) }
+    ensures { Gives (λ r. (r.0, r.1.now)) result (listed (B.readers brackets.now).expr tokens.now) }
 {
-    let mut parts = Items::new(alloc);
-    let mut rest = tokens;
-    for _ in 0..tokens.len() {
-        if next_is(rest, Kind::Comma) {
-            let after = take(rest, Kind::Comma)?;
-            let (part, after) = brackets.expr(alloc, after)?;
-            parts.push(part)?;
-            rest = after;
-        } else {
-            return Ok((parts, rest));
-        }
-    }
-    Ok((parts, rest))
+    listed(alloc, tokens, |rest| brackets.expr(alloc, rest))
 }

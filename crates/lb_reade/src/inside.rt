@@ -1,4 +1,4 @@
-// What brackets may hold.
+// What brackets may hold: a query, a condition or an expression, read by what the caller lends.
 use lb_tree::{Cond, Expr, Query};
 
 /// What is to be read in a bracket.
@@ -34,11 +34,11 @@ pub enum Mixed {
     Expr(Expr),
 }
 
-/// What stands in a parenthesis behind a comparison sign.
+/// What stands in a parenthesis after a comparison sign.
 #[derive(Drop)]
 pub enum Side {
     /// A query, whose value is compared.
     Query(Query),
-    /// An expression, which may go on behind the parenthesis.
+    /// An expression, which may go on after the parenthesis.
     Expr(Expr),
 }

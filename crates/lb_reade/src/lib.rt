@@ -1,6 +1,6 @@
 //! Expressions and conditions, read from the front of a list of tokens by recursive descent.
 //!
-//! A reader answers what it read and the tokens behind that, or a fault, as those of `lb_readt` do, on which it stands. Its
+//! A reader answers what it read and the tokens after that, or a fault, as those of `lb_readt` do, on which it stands. Its
 //! contract is the reader of `specs/Expressions` that stands for the same production of the grammar. What stands in a
 //! bracket is read through [`Brackets`], so that no function of this crate leads back to itself.
 #![tactic(auto)]

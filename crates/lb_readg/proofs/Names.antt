@@ -1,4 +1,4 @@
--- Keywords that may be names: the word behind decides what they are.
+-- Keywords that may be names: the word after decides what they are.
 use Rattle.std.proofs.Common.{Bool, true, false, inl, inr, ◌≡◌, ℕ, List, [], ◌++◌, Option, Some, None, refl, sym, ap, subst, ◌∙◌}
 use Rattle.std.specs.Option.{option_and_then}
 use Rattle.lb_tok.specs.declared.kind.Kind.{Kind}
@@ -12,18 +12,18 @@ use Rattle.lb_readt.specs.Readers.{Reader, seq}
 use Rattle.lb_readg.specs.Granting.{marked, name_or, named_at}
 use Rattle.lb_readt.proofs.Sets.{subset, within, apart, disjoint, has_only}
 use Rattle.lb_readt.proofs.Joined.{Within, lasts}
-use Rattle.lb_readt.proofs.Combined.{Reads, is_plain, one_reads, then_reads, same_reads}
+use Rattle.lb_readt.proofs.Combined.{IsReaderOf, is_plain, one_reads, then_reads, same_reads}
 use Rattle.lb_readt.proofs.Tokens.{name_token}
 
 -- a name, and what its keyword is taken for
 abbrev pub Marked : {A : Type 0} → (Kind → A) → Lang (A × List ℕ)
 Marked f = One names (λ t. option_and_then (λ n. Some (f t.kind, n)) (name_in t.content))
 
-pub marked_reads : {b : Bool} {d : ℕ} {A : Type 0} (f : Kind → A) → Reads b d (marked f) (Marked f) false names []
+pub marked_reads : {b : Bool} {d : ℕ} {A : Type 0} (f : Kind → A) → IsReaderOf b d (marked f) (Marked f) false names []
 unfolding has
 marked_reads f = one_reads name_token refl refl refl
 
-pub name_or_reads : {b : Bool} {d : ℕ} (k : Kind) → Reads b d (name_or k) (Marked (has (only k))) false names []
+pub name_or_reads : {b : Bool} {d : ℕ} (k : Kind) → IsReaderOf b d (name_or k) (Marked (has (only k))) false names []
 unfolding name_or
 name_or_reads k = marked_reads (has (only k))
 
@@ -31,7 +31,7 @@ name_or_reads k = marked_reads (has (only k))
 abbrev pub keyword_token : Kind → Token
 keyword_token k = record name_token { kind = k }
 
-pub named_reads : {b : Bool} {d : ℕ} (k : Kind) → is_plain (only k) ≡ true → Reads b d (named_at k) (Named k) false (only k) []
+pub named_reads : {b : Bool} {d : ℕ} (k : Kind) → is_plain (only k) ≡ true → IsReaderOf b d (named_at k) (Named k) false (only k) []
 unfolding named_at
 named_reads k o = one_reads (keyword_token k) (has_only k) refl o
 
@@ -67,12 +67,12 @@ of_may k P s ts x p = go p.3
     go (inl q) = inl (p.0, p.1, p.2, q, p.4, p.5)
     go (inr q) = inr (subst (λ (u : List Token). P s u x) (sym (p.5 ∙ ap (λ (u : List Token). u ++ p.1) q.0)) p.4)
 
--- Q behind the keyword k, or R behind a name
+-- Q after the keyword k, or R after a name
 
 abbrev pub Ahead : {A : Type 0} → Kind → Lang A → (List ℕ → Lang A) → Lang A
 Ahead k Q R = Either (AfterNamed k Q) (Seq IsName R)
 
--- what goes on behind the name
+-- what goes on after the name
 abbrev pub Chosen : {A : Type 0} → Lang A → (List ℕ → Lang A) → Bool × List ℕ → Lang A
 Chosen Q R (true, n) = Either Q (R n)
 Chosen Q R (false, n) = R n
@@ -102,11 +102,11 @@ of_ahead {A} k Q R h s ts x (inr p) = go (has (only k) p.3.0.kind) refl
     go true e = (p.0, p.1, (true, p.2), (p.3.0, p.3.1, p.3.2, name_marked (name_in p.3.0.content) (has (only k) p.3.0.kind) true p.2 p.3.3 e), inr p.4, p.5)
     go false e = (p.0, p.1, (false, p.2), (p.3.0, p.3.1, p.3.2, name_marked (name_in p.3.0.content) (has (only k) p.3.0.kind) false p.2 p.3.3 e), p.4, p.5)
 
-pub ahead_reads : {b : Bool} {d : ℕ} {A : Type 0} {on : Bool × List ℕ → Reader A} {m : Bool} {F E : Kinds} (k : Kind) (Q : Lang A) (R : List ℕ → Lang A) → subset (only k) names ≡ true → ((p : Bool × List ℕ) → Reads b d (on p) (Chosen Q R p) m F E) → disjoint F [] ≡ true
-    → Reads b d (seq (name_or k) on) (Ahead k Q R) false names (lasts m [] E)
+pub ahead_reads : {b : Bool} {d : ℕ} {A : Type 0} {on : Bool × List ℕ → Reader A} {m : Bool} {F E : Kinds} (k : Kind) (Q : Lang A) (R : List ℕ → Lang A) → subset (only k) names ≡ true → ((p : Bool × List ℕ) → IsReaderOf b d (on p) (Chosen Q R p) m F E) → disjoint F [] ≡ true
+    → IsReaderOf b d (seq (name_or k) on) (Ahead k Q R) false names (lasts m [] E)
 ahead_reads k Q R h on e = same_reads (Ahead k Q R) (to_ahead k Q R) (of_ahead k Q R h) (then_reads (name_or_reads k) on e)
 
--- Q behind the keyword k, or O behind the keyword j, or R behind a name
+-- Q after the keyword k, or O after the keyword j, or R after a name
 
 abbrev pub Ahead2 : {A : Type 0} → Kind → Lang A → Kind → Lang A → (List ℕ → Lang A) → Lang A
 Ahead2 k Q j O R = Either (AfterNamed k Q) (Either (AfterNamed j O) (Seq IsName R))
@@ -163,5 +163,5 @@ of_ahead2 {A} k Q j O R h i d s ts x (inr (inr p)) = go (has (only k) p.3.0.kind
     go false e false f = (p.0, p.1, ((false, false), p.2), mark false false e f, p.4, p.5)
 
 pub ahead2_reads : {b : Bool} {d : ℕ} {A : Type 0} {on : (Bool × Bool) × List ℕ → Reader A} {m : Bool} {F E : Kinds} (k : Kind) (Q : Lang A) (j : Kind) (O : Lang A) (R : List ℕ → Lang A) → subset (only k) names ≡ true → subset (only j) names ≡ true → disjoint (only j) (only k) ≡ true
-    → ((p : (Bool × Bool) × List ℕ) → Reads b d (on p) (Chosen2 Q O R p) m F E) → disjoint F [] ≡ true → Reads b d (seq (marked (either_of k j)) on) (Ahead2 k Q j O R) false names (lasts m [] E)
+    → ((p : (Bool × Bool) × List ℕ) → IsReaderOf b d (on p) (Chosen2 Q O R p) m F E) → disjoint F [] ≡ true → IsReaderOf b d (seq (marked (either_of k j)) on) (Ahead2 k Q j O R) false names (lasts m [] E)
 ahead2_reads k Q j O R h i e on z = same_reads (Ahead2 k Q j O R) (to_ahead2 k Q j O R) (of_ahead2 k Q j O R h i e) (then_reads (marked_reads (either_of k j)) on z)

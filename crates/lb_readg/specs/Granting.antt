@@ -9,7 +9,7 @@ use Rattle.lb_stmt.specs.declared.change.Exempted.{Exempted}
 use Rattle.lb_base.specs.declared.rule.Rule.TheVariants as rules
 use Rattle.lb_stmt.specs.declared.change.Exempted.TheVariants as exempted
 use Rattle.lb_stmt.specs.declared.change.Privilege.{Privilege}
-use Rattle.lb_stmt.specs.declared.change.Privilege.TheVariants as rights
+use Rattle.lb_stmt.specs.declared.change.Privilege.TheVariants as privileges
 use Rattle.lb_stmt.specs.declared.change.Grantee.{Grantee}
 use Rattle.lb_stmt.specs.declared.change.Grantee.TheVariants as grantees
 use Rattle.lb_stmt.specs.declared.change.Change.{Change}
@@ -53,7 +53,7 @@ spelt_grantee_at = pick (only kinds.Public) (means kinds.Public grantees.Public)
 unfoldable pub grantee_at : Reader Grantee
 grantee_at = pick (only kinds.Public) (means kinds.Public grantees.Public) (made grantees.User user_at)
 
--- behind the policy: . name
+-- after the policy: . name
 unfoldable pub label_on : List ℕ → Reader LabelName
 label_on p = after kinds.Dot (made (λ l. record { policy = p; label = l }) name_at)
 
@@ -85,52 +85,52 @@ rule_at =
 unfoldable pub rule_of_at : Reader (Exempted × List ℕ)
 rule_of_at = after kinds.On (after kinds.Rule (seq rule_at (λ r. after kinds.For (made (λ p. (r, p)) name_at))))
 
-unfoldable pub right_at : Reader Privilege
-right_at =
-    pick (only kinds.Select) (means kinds.Select rights.Select)
-    (pick (only kinds.Insert) (means kinds.Insert rights.Insert)
-    (pick (only kinds.Update) (means kinds.Update rights.Update)
-    (means kinds.Delete rights.Delete)))
+unfoldable pub privilege_at : Reader Privilege
+privilege_at =
+    pick (only kinds.Select) (means kinds.Select privileges.Select)
+    (pick (only kinds.Insert) (means kinds.Insert privileges.Insert)
+    (pick (only kinds.Update) (means kinds.Update privileges.Update)
+    (means kinds.Delete privileges.Delete)))
 
-unfoldable pub rights_at : Reader (List Privilege)
-rights_at = listed right_at
+unfoldable pub privileges_at : Reader (List Privilege)
+privileges_at = listed privilege_at
 
 -- GRANT privileges ON a table, which may be named TABLE or TO
 
--- behind the table: TO (u | PUBLIC)
+-- after the table: TO (u | PUBLIC)
 unfoldable pub granted_on : List Privilege → List ℕ → Reader Change
 granted_on rs t = seq (named_at kinds.To) (λ _. made (changes.GrantPrivileges rs t) grantee_at)
 
--- behind TABLE, which is t, and TO, which is n, and a name: where it is TO, and a grantee follows, the table is n
+-- after TABLE, which is t, and TO, which is n, and a name: where it is TO, and a grantee follows, the table is n
 unfoldable pub third_on : List Privilege → List ℕ → List ℕ → Bool × List ℕ → Reader Change
 third_on rs t n p = choose p.0 (pick in_grantee (made (changes.GrantPrivileges rs n) grantee_at) (give (changes.GrantPrivileges rs t (grantees.User p.1)))) (give (changes.GrantPrivileges rs t (grantees.User p.1)))
 
--- behind TABLE, which is t, and TO, which is n
+-- after TABLE, which is t, and TO, which is n
 unfoldable pub second_to_on : List Privilege → List ℕ → List ℕ → Reader Change
 second_to_on rs t n = pick (only kinds.Public ++ only kinds.User) (made (changes.GrantPrivileges rs t) spelt_grantee_at) (seq (name_or kinds.To) (third_on rs t n))
 
--- behind TABLE, which is t, and a name
+-- after TABLE, which is t, and a name
 unfoldable pub second_on : List Privilege → List ℕ → Bool × List ℕ → Reader Change
 second_on rs t p = choose p.0 (second_to_on rs t p.1) (granted_on rs p.1)
 
--- behind a name, and whether it is TABLE
+-- after a name, and whether it is TABLE
 unfoldable pub first_on : List Privilege → Bool × List ℕ → Reader Change
 first_on rs p = choose p.0 (seq (name_or kinds.To) (second_on rs p.1)) (granted_on rs p.1)
 
-unfoldable pub grant_rights_at : Reader Change
-grant_rights_at = seq rights_at (λ rs. after kinds.On (seq (name_or kinds.Table) (first_on rs)))
+unfoldable pub grant_privileges_at : Reader Change
+grant_privileges_at = seq privileges_at (λ rs. after kinds.On (seq (name_or kinds.Table) (first_on rs)))
 
 -- REVOKE privileges ON a table, which may be named TABLE
 
--- behind the table: FROM (u | PUBLIC)
+-- after the table: FROM (u | PUBLIC)
 unfoldable pub revoked_on : List Privilege → List ℕ → Reader Change
 revoked_on rs t = after kinds.From (made (changes.RevokePrivileges rs t) grantee_at)
 
 unfoldable pub revoked_table_on : List Privilege → Bool × List ℕ → Reader Change
 revoked_table_on rs p = choose p.0 (pick names (seq name_at (revoked_on rs)) (revoked_on rs p.1)) (revoked_on rs p.1)
 
-unfoldable pub revoke_rights_at : Reader Change
-revoke_rights_at = seq rights_at (λ rs. after kinds.On (seq (name_or kinds.Table) (revoked_table_on rs)))
+unfoldable pub revoke_privileges_at : Reader Change
+revoke_privileges_at = seq privileges_at (λ rs. after kinds.On (seq (name_or kinds.Table) (revoked_table_on rs)))
 
 unfoldable pub grant_label_at : Reader Change
 grant_label_at = after kinds.Label (seq label_name_at (λ l. after kinds.To (seq user_at (λ u. made (changes.GrantLabel l u) access_at))))
@@ -150,7 +150,7 @@ grant_at =
     (pick (only kinds.Exemption) grant_exemption_at
     (pick (only kinds.Role) grant_role_at
     (pick (only kinds.Secadm) grant_secadm_at
-    grant_rights_at)))
+    grant_privileges_at)))
 
 unfoldable pub revoke_label_at : Reader Change
 revoke_label_at = after kinds.Label (seq label_name_at (λ l. after kinds.From (made (changes.RevokeLabel l) user_at)))
@@ -170,4 +170,4 @@ revoke_at =
     (pick (only kinds.Exemption) revoke_exemption_at
     (pick (only kinds.Role) revoke_role_at
     (pick (only kinds.Secadm) revoke_secadm_at
-    revoke_rights_at)))
+    revoke_privileges_at)))

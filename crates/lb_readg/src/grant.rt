@@ -1,14 +1,14 @@
-// GRANT and REVOKE.
-ghost use Rattle.std.specs.Prelude.{◌≡◌, ◌∷◌, [], ◌++◌};
+// Reads GRANT and REVOKE, where a table, a user or a role may be named as the keyword that comes before it.
+ghost use Rattle.std.specs.Prelude.{◌≡◌, ◌++◌};
 ghost use Rattle.lb_tok.specs.declared.kind.Kind.TheVariants as kinds;
-ghost use Rattle.lb_readt.specs.Readers.{after, commas, listed};
+ghost use Rattle.lb_readt.specs.Readers.{after};
 ghost use Rattle.lb_readt.specs.Answering.{Gives};
-ghost use Rattle.lb_readg.specs.Granting.{which_access_at, access_at, down_or_up_at, rule_at, rule_of_at, right_at, rights_at, granted_on, third_on, second_to_on, second_on, first_on, grant_rights_at, revoked_on, revoked_table_on, revoke_rights_at, grant_label_at, grant_exemption_at, grant_role_at, grant_secadm_at, grant_at, revoke_label_at, revoke_exemption_at, revoke_role_at, revoke_secadm_at, revoke_at};
+ghost use Rattle.lb_readg.specs.Granting.{which_access_at, access_at, down_or_up_at, rule_at, rule_of_at, privilege_at, privileges_at, granted_on, third_on, second_to_on, second_on, first_on, grant_privileges_at, revoked_on, revoked_table_on, revoke_privileges_at, grant_label_at, grant_exemption_at, grant_role_at, grant_secadm_at, grant_at, revoke_label_at, revoke_exemption_at, revoke_role_at, revoke_secadm_at, revoke_at};
 
 use crate::user::{grantee, label_name, spelt_grantee, user};
 use crate::word::{means, name_or, named, next_is_grantee};
 use lb_base::{Name, Rule};
-use lb_readt::{Read, name, next_is, next_is_either, next_is_name, take, with_first};
+use lb_readt::{Read, listed, name, next_is, next_is_either, next_is_name, take, take_if};
 use lb_stmt::{Access, Change, Exempted, Grantee, Privilege};
 use lb_tok::{Kind, Token};
 use sqlite_items::Items;
@@ -33,8 +33,7 @@ fn which_access<'a>(tokens: &'a [Token]) -> Read<'a, Access>
 fn access<'a>(tokens: &'a [Token]) -> Read<'a, Access>
     ensures { Gives (λ r. (r.0, r.1.now)) result (access_at tokens.now) }
 {
-    if next_is(tokens, Kind::For) {
-        let rest = take(tokens, Kind::For)?;
+    if let Some(rest) = take_if(tokens, Kind::For) {
         let (access, rest) = which_access(rest)?;
         means(rest, Kind::Access, access)
     } else {
@@ -73,8 +72,7 @@ fn rule<'a>(tokens: &'a [Token]) -> Read<'a, Exempted>
             Kind::Db2LbacReadTree,
             Exempted::Rule(Rule::ReadTree),
         )
-    } else if next_is(tokens, Kind::Db2LbacWriteArray) {
-        let rest = take(tokens, Kind::Db2LbacWriteArray)?;
+    } else if let Some(rest) = take_if(tokens, Kind::Db2LbacWriteArray) {
         down_or_up(rest)
     } else if next_is(tokens, Kind::Db2LbacWriteSet) {
         means(
@@ -107,9 +105,9 @@ fn rule_of<'a>(tokens: &'a [Token]) -> Read<'a, (Exempted, Name)>
 }
 
 // priv = SELECT | INSERT | UPDATE | DELETE
-#[tactic(auto, unfolding(crate::specs::Granting::right_at))]
+#[tactic(auto, unfolding(crate::specs::Granting::privilege_at))]
 fn right<'a>(tokens: &'a [Token]) -> Read<'a, Privilege>
-    ensures { Gives (λ r. (r.0, r.1.now)) result (right_at tokens.now) }
+    ensures { Gives (λ r. (r.0, r.1.now)) result (privilege_at tokens.now) }
 {
     if next_is(tokens, Kind::Select) {
         means(tokens, Kind::Select, Privilege::Select)
@@ -122,144 +120,131 @@ fn right<'a>(tokens: &'a [Token]) -> Read<'a, Privilege>
     }
 }
 
-// {, priv}
-fn more_rights<'a>(alloc: Global, tokens: &'a [Token]) -> Read<'a, Items<Privilege>>
-    ensures { Gives (λ r. (r.0, r.1.now)) result (commas right_at tokens.now) }
-{
-    let mut parts = Items::new(alloc);
-    let mut rest = tokens;
-    for _ in 0..tokens.len() {
-        if next_is(rest, Kind::Comma) {
-            let after = take(rest, Kind::Comma)?;
-            let (part, after) = right(after)?;
-            parts.push(part)?;
-            rest = after;
-        } else {
-            return Ok((parts, rest));
-        }
-    }
-    Ok((parts, rest))
-}
-
 // priv {, priv}
-#[tactic(auto, unfolding(crate::specs::Granting::rights_at))]
-fn rights<'a>(alloc: Global, tokens: &'a [Token]) -> Read<'a, Items<Privilege>>
-    ensures { Gives (λ r. (r.0, r.1.now)) result (rights_at tokens.now) }
+#[tactic(auto, unfolding(crate::specs::Granting::privileges_at))]
+fn privileges<'a>(alloc: Global, tokens: &'a [Token]) -> Read<'a, Items<Privilege>>
+    ensures { Gives (λ r. (r.0, r.1.now)) result (privileges_at tokens.now) }
 {
-    let (first, rest) = right(tokens)?;
-    let (more, rest) = more_rights(alloc, rest)?;
-    Ok((with_first(alloc, first, more)?, rest))
+    listed(alloc, tokens, |rest| right(rest))
 }
 
-// TO (u | PUBLIC), behind the table
+// TO (u | PUBLIC), after the table
 #[tactic(auto, unfolding(crate::specs::Granting::granted_on))]
-fn granted_table<'a>(rights: Items<Privilege>, table: Name, tokens: &'a [Token]) -> Read<'a, Change>
-    ensures { Gives (λ r. (r.0, r.1.now)) result (granted_on rights table tokens.now) }
+fn granted_table<'a>(
+    privileges: Items<Privilege>,
+    table: Name,
+    tokens: &'a [Token],
+) -> Read<'a, Change>
+    ensures { Gives (λ r. (r.0, r.1.now)) result (granted_on privileges table tokens.now) }
 {
     let rest = named(tokens, Kind::To)?;
     let (grantee, rest) = grantee(rest)?;
-    Ok((Change::GrantPrivileges(rights, table, grantee), rest))
+    Ok((Change::GrantPrivileges(privileges, table, grantee), rest))
 }
 
-// Behind TABLE, TO and a name: where that is TO, and a grantee follows, the first TO is the table.
+// After TABLE, TO and a name: where that is TO, and a grantee follows, the first TO is the table.
 #[tactic(auto, unfolding(crate::specs::Granting::third_on))]
 fn behind_to<'a>(
-    rights: Items<Privilege>,
+    privileges: Items<Privilege>,
     first: Name,
     second: Name,
     third: (bool, Name),
     tokens: &'a [Token],
 ) -> Read<'a, Change>
-    ensures { Gives (λ r. (r.0, r.1.now)) result (third_on rights first second third tokens.now) }
+    ensures { Gives (λ r. (r.0, r.1.now)) result (third_on privileges first second third tokens.now) }
 {
     let (is_to, name) = third;
     if is_to && next_is_grantee(tokens) {
         let (grantee, rest) = grantee(tokens)?;
-        Ok((Change::GrantPrivileges(rights, second, grantee), rest))
+        Ok((Change::GrantPrivileges(privileges, second, grantee), rest))
     } else {
         Ok((
-            Change::GrantPrivileges(rights, first, Grantee::User(name)),
+            Change::GrantPrivileges(privileges, first, Grantee::User(name)),
             tokens,
         ))
     }
 }
 
-// Behind TABLE and TO, of which each may be the table.
+// After TABLE and TO, of which each may be the table.
 #[tactic(auto, unfolding(crate::specs::Granting::second_to_on))]
 fn behind_table_to<'a>(
-    rights: Items<Privilege>,
+    privileges: Items<Privilege>,
     first: Name,
     second: Name,
     tokens: &'a [Token],
 ) -> Read<'a, Change>
-    ensures { Gives (λ r. (r.0, r.1.now)) result (second_to_on rights first second tokens.now) }
+    ensures { Gives (λ r. (r.0, r.1.now)) result (second_to_on privileges first second tokens.now) }
 {
     if next_is_either(tokens, Kind::Public, Kind::User) {
         let (grantee, rest) = spelt_grantee(tokens)?;
-        Ok((Change::GrantPrivileges(rights, first, grantee), rest))
+        Ok((Change::GrantPrivileges(privileges, first, grantee), rest))
     } else {
         let (third, rest) = name_or(tokens, Kind::To)?;
-        behind_to(rights, first, second, third, rest)
+        behind_to(privileges, first, second, third, rest)
     }
 }
 
-// Behind TABLE and a name.
+// After TABLE and a name.
 #[tactic(auto, unfolding(crate::specs::Granting::second_on))]
 fn behind_table<'a>(
-    rights: Items<Privilege>,
+    privileges: Items<Privilege>,
     first: Name,
     second: (bool, Name),
     tokens: &'a [Token],
 ) -> Read<'a, Change>
-    ensures { Gives (λ r. (r.0, r.1.now)) result (second_on rights first second tokens.now) }
+    ensures { Gives (λ r. (r.0, r.1.now)) result (second_on privileges first second tokens.now) }
 {
     let (is_to, name) = second;
     if is_to {
-        behind_table_to(rights, first, name, tokens)
+        behind_table_to(privileges, first, name, tokens)
     } else {
-        granted_table(rights, name, tokens)
+        granted_table(privileges, name, tokens)
     }
 }
 
 // priv {, priv} ON [TABLE] name TO (u | PUBLIC)
-#[tactic(auto, unfolding(crate::specs::Granting::grant_rights_at, crate::specs::Granting::first_on))]
-fn grant_rights<'a>(alloc: Global, tokens: &'a [Token]) -> Read<'a, Change>
-    ensures { Gives (λ r. (r.0, r.1.now)) result (grant_rights_at tokens.now) }
+#[tactic(auto, unfolding(crate::specs::Granting::grant_privileges_at, crate::specs::Granting::first_on))]
+fn grant_privileges<'a>(alloc: Global, tokens: &'a [Token]) -> Read<'a, Change>
+    ensures { Gives (λ r. (r.0, r.1.now)) result (grant_privileges_at tokens.now) }
 {
-    let (rights, rest) = rights(alloc, tokens)?;
+    let (privileges, rest) = privileges(alloc, tokens)?;
     let rest = take(rest, Kind::On)?;
     let ((is_table, first), rest) = name_or(rest, Kind::Table)?;
     if is_table {
         let (second, rest) = name_or(rest, Kind::To)?;
-        behind_table(rights, first, second, rest)
+        behind_table(privileges, first, second, rest)
     } else {
-        granted_table(rights, first, rest)
+        granted_table(privileges, first, rest)
     }
 }
 
-// FROM (u | PUBLIC), behind the table
+// FROM (u | PUBLIC), after the table
 #[tactic(auto, unfolding(crate::specs::Granting::revoked_on))]
-fn revoked_table<'a>(rights: Items<Privilege>, table: Name, tokens: &'a [Token]) -> Read<'a, Change>
-    ensures { Gives (λ r. (r.0, r.1.now)) result (revoked_on rights table tokens.now) }
+fn revoked_table<'a>(
+    privileges: Items<Privilege>,
+    table: Name,
+    tokens: &'a [Token],
+) -> Read<'a, Change>
+    ensures { Gives (λ r. (r.0, r.1.now)) result (revoked_on privileges table tokens.now) }
 {
     let rest = take(tokens, Kind::From)?;
     let (grantee, rest) = grantee(rest)?;
-    Ok((Change::RevokePrivileges(rights, table, grantee), rest))
+    Ok((Change::RevokePrivileges(privileges, table, grantee), rest))
 }
 
 // priv {, priv} ON [TABLE] name FROM (u | PUBLIC)
-#[tactic(auto, unfolding(crate::specs::Granting::revoke_rights_at, crate::specs::Granting::revoked_table_on))]
-fn revoke_rights<'a>(alloc: Global, tokens: &'a [Token]) -> Read<'a, Change>
-    ensures { Gives (λ r. (r.0, r.1.now)) result (revoke_rights_at tokens.now) }
+#[tactic(auto, unfolding(crate::specs::Granting::revoke_privileges_at, crate::specs::Granting::revoked_table_on))]
+fn revoke_privileges<'a>(alloc: Global, tokens: &'a [Token]) -> Read<'a, Change>
+    ensures { Gives (λ r. (r.0, r.1.now)) result (revoke_privileges_at tokens.now) }
 {
-    let (rights, rest) = rights(alloc, tokens)?;
+    let (privileges, rest) = privileges(alloc, tokens)?;
     let rest = take(rest, Kind::On)?;
     let ((is_table, first), rest) = name_or(rest, Kind::Table)?;
     if is_table && next_is_name(rest) {
         let (table, rest) = name(rest)?;
-        revoked_table(rights, table, rest)
+        revoked_table(privileges, table, rest)
     } else {
-        revoked_table(rights, first, rest)
+        revoked_table(privileges, first, rest)
     }
 }
 
@@ -314,9 +299,9 @@ fn grant_secadm<'a>(tokens: &'a [Token]) -> Read<'a, Change>
     Ok((Change::GrantSecadm(user), rest))
 }
 
-/// Reads what stands behind GRANT, which is taken already: rights on a table, a role, SECADM, a label or an exemption.
+/// Reads what stands after GRANT, which is taken already: privileges on a table, a role, SECADM, a label or an exemption.
 ///
-/// In `GRANT SELECT ON TABLE TO ..` the words TABLE and TO may be names: the table is TABLE or TO, as the tokens behind
+/// In `GRANT SELECT ON TABLE TO ..` the words TABLE and TO may be names: the table is TABLE or TO, as the tokens after
 /// decide. A label without FOR is granted for all access.
 ///
 /// Db2 11.5 documentation: "GRANT (table, view, or nickname privileges) statement", "GRANT (role) statement", "GRANT
@@ -334,7 +319,7 @@ pub fn granted<'a>(alloc: Global, tokens: &'a [Token]) -> Read<'a, Change>
     } else if next_is(tokens, Kind::Secadm) {
         grant_secadm(tokens)
     } else {
-        grant_rights(alloc, tokens)
+        grant_privileges(alloc, tokens)
     }
 }
 
@@ -388,7 +373,7 @@ fn revoke_secadm<'a>(tokens: &'a [Token]) -> Read<'a, Change>
     Ok((Change::RevokeSecadm(user), rest))
 }
 
-/// Reads what stands behind REVOKE, which is taken already: rights on a table, a role, SECADM, a label or an exemption. In
+/// Reads what stands after REVOKE, which is taken already: privileges on a table, a role, SECADM, a label or an exemption. In
 /// `REVOKE SELECT ON TABLE FROM ..` the table is named TABLE.
 ///
 /// Db2 11.5 documentation: "REVOKE (table, view, or nickname privileges) statement", "REVOKE (role) statement", "REVOKE
@@ -406,6 +391,6 @@ pub fn revoked<'a>(alloc: Global, tokens: &'a [Token]) -> Read<'a, Change>
     } else if next_is(tokens, Kind::Secadm) {
         revoke_secadm(tokens)
     } else {
-        revoke_rights(alloc, tokens)
+        revoke_privileges(alloc, tokens)
     }
 }

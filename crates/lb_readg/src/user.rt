@@ -1,4 +1,4 @@
-// Names of users and labels.
+// Reads the names of users, grantees and labels, each in one place for all statements that have one.
 ghost use Rattle.std.specs.Prelude.{◌≡◌};
 ghost use Rattle.lb_readt.specs.Answering.{Gives};
 ghost use Rattle.lb_readg.specs.Granting.{user_at, spelt_grantee_at, grantee_at, label_on, label_name_at};
@@ -45,7 +45,7 @@ pub fn grantee<'a>(tokens: &'a [Token]) -> Read<'a, Grantee>
     }
 }
 
-/// The rest of a label's name, behind the policy's name: . name
+/// The rest of a label's name, after the policy's name: . name
 #[tactic(auto, unfolding(crate::specs::Granting::label_on))]
 pub fn label_behind<'a>(policy: Name, tokens: &'a [Token]) -> Read<'a, LabelName>
     ensures { Gives (λ r. (r.0, r.1.now)) result (label_on policy tokens.now) }

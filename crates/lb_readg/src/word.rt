@@ -55,7 +55,7 @@ pub fn name_or_either<'a>(
     }
 }
 
-/// Takes the keyword, which must be next and is a name too, and returns the tokens behind it.
+/// Takes the keyword, which must be next and is a name too, and returns the tokens after it.
 #[tactic(auto, unfolding(crate::specs::Granting::named_at))]
 pub fn named<'a>(tokens: &'a [Token], keyword: Kind) -> Result<&'a [Token], Fault<'a>>
     ensures { Gives (λ r. (tt, r.now)) result (named_at keyword tokens.now) }

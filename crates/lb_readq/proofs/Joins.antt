@@ -1,4 +1,4 @@
--- What begins a join.
+-- Which tokens begin a join: a chain of tables ends before any other.
 use Rattle.std.proofs.Common.{Bool, true, false, cond, ◌||◌, ◌≡◌, refl}
 use Rattle.lb_tok.specs.declared.kind.Kind.{Kind}
 use Rattle.lb_tok.specs.declared.kind.Kind.TheVariants as kinds

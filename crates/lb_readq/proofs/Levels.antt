@@ -1,4 +1,4 @@
--- What stands behind an opener is the next level's.
+-- What stands after an opener is the next level's.
 use Rattle.std.proofs.Common.{◌≡◌, ℕ, zero, suc, ◌-◌, ◌<◌, refl, sym, ap, ◌∙◌, List, arith}
 use Rattle.lb_reade.specs.declared.inside.Wanted.{Wanted}
 use Rattle.lb_reade.specs.declared.inside.Wanted.TheVariants as wanteds

@@ -11,19 +11,19 @@ use Rattle.lb_readt.specs.Readers.{Why, bad, deep, Answer, got, stop}
 use Rattle.lb_tok.specs.Limit.{walk}
 use Rattle.lb_readq.specs.Judging.{Refused, Judged}
 use Rattle.lb_tok.specs.Refusals.{Spells, NoneThrough, TooDeep}
-use Rattle.lb_tok.specs.Refusals.{StandsAt, GoesNoFurther, IsRefusedAt, IsRead, FaultSays}
+use Rattle.lb_tok.specs.Refusals.{StandsAt, GoesNoFurther, IsRefusedAt, IsSpelledWithin, FaultSays}
 use Rattle.lb_readq.proofs.Whole.{nil}
 
 -- the tokens that are left are the last ones
 pub left_over : (P : Lang Stmt) (d : ℕ) (ts : List Token) (c : Why) (rest : List Token) (a : Answer Stmt) → Judged P d ts a → a ≡ stop c rest → (front : List Token) × (ts ≡ front ++ rest)
 left_over P d ts c rest a j e = let r : Refused P d ts c rest = subst (λ (b : Answer Stmt). Judged P d ts b) e j in (r.front, r.whole)
 
-pub is_read : (P : Lang Stmt) (d : ℕ) (found : Tokens) (s : Stmt) (a : Answer Stmt) → Judged P d found.tokens a → a ≡ got s [] → found.stop ≡ None → IsRead P d found s
+pub is_read : (P : Lang Stmt) (d : ℕ) (found : Tokens) (s : Stmt) (a : Answer Stmt) → Judged P d found.tokens a → a ≡ got s [] → found.stop ≡ None → IsSpelledWithin P d found s
 is_read P d found s a j e h =
     let r : Judged P d found.tokens (got s []) = subst (λ (b : Answer Stmt). Judged P d found.tokens b) e j in
     (h, r.1, r.2)
 
--- a byte begins no token behind tokens that spell a statement
+-- a byte begins no token after tokens that spell a statement
 pub is_cut : (P : Lang Stmt) (d : ℕ) (found : Tokens) (s : Stmt) (at : ℕ) (a : Answer Stmt) → Judged P d found.tokens a → a ≡ got s [] → found.stop ≡ Some at → IsRefusedAt P d found at
 is_cut P d found s at a j e h =
     let r : Judged P d found.tokens (got s []) = subst (λ (b : Answer Stmt). Judged P d found.tokens b) e j in
@@ -40,8 +40,8 @@ is_cut P d found s at a j e h =
     }
 
 pub if_read : (P : Lang Stmt) (d : ℕ) (found : Tokens) (s : Stmt) (a : Answer Stmt) → Judged P d found.tokens a → a ≡ got s [] → (r : Result Stmt ReadFault)
-    → IfOk r (λ v. (v ≡ s) × (found.stop ≡ None)) → IfOk r (λ v. IsRead P d found v)
-if_read P d found s a j e (Ok v) h = subst (λ (u : Stmt). IsRead P d found u) (sym h.0) (is_read P d found s a j e h.1)
+    → IfOk r (λ v. (v ≡ s) × (found.stop ≡ None)) → IfOk r (λ v. IsSpelledWithin P d found v)
+if_read P d found s a j e (Ok v) h = subst (λ (u : Stmt). IsSpelledWithin P d found u) (sym h.0) (is_read P d found s a j e h.1)
 if_read P d found s a j e (Err x) h = h
 
 pub if_cut : (P : Lang Stmt) (d : ℕ) (found : Tokens) (s : Stmt) (a : Answer Stmt) → Judged P d found.tokens a → a ≡ got s [] → (r : Result Stmt ReadFault)

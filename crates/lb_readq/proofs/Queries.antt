@@ -18,7 +18,7 @@ use Rattle.lb_tok.specs.Grammar.{level, of_table, a_column, InExpr, InCond, InQu
 use Rattle.lb_reade.specs.Expressions.{Readers, unnamed_at}
 use Rattle.lb_readq.specs.Queries.{readers, alias_at, tab_at, value_on, starred_on, item_at, items_at, joined_at, join_at, in_join, chain_at, where_at, group_at, having_at, query_at, direction_at, sort_key_at, order_at, row_count_at, fetch_at, may_fetch_at, select_at}
 use Rattle.lb_readt.proofs.Joined.{Within}
-use Rattle.lb_readt.proofs.Combined.{Reads, word_reads, give_reads, then_reads, same_reads, pick_reads, many_reads, wide, made_reads, after_reads, means_reads, may_reads, flag_reads, optional_reads, listed_reads}
+use Rattle.lb_readt.proofs.Combined.{IsReaderOf, word_reads, give_reads, then_reads, same_reads, pick_reads, many_reads, wide, made_reads, after_reads, means_reads, may_reads, flag_reads, optional_reads, listed_reads}
 use Rattle.lb_reade.proofs.Inner.{in_literal, in_fact, MixedOf, InMixed, expr_tongue, cond_tongue, mixed_tongue, query_tongue, down_reads}
 use Rattle.lb_readt.proofs.Tokens.{name_reads, count_reads, word_at_reads, column_reads}
 use Rattle.lb_reade.proofs.Expressions.{after_expr, after_cond, after_query, Lower, Ready, parens_reads, in_parens, called_reads, Called, literal_reads, expr_reads, rest_reads, Rest, in_rest, Named, NamedOn, named_view, view_name, to_named, of_named}
@@ -27,11 +27,11 @@ use Rattle.lb_reade.proofs.Conditions.{cond_reads, mixed_reads, to_exprs, of_exp
 
 -- ---- aliases and tables
 
-pub alias_reads : {b : Bool} {d : ℕ} → Reads b d alias_at IsAlias true (only kinds.As ++ names) (only kinds.As ++ names)
+pub alias_reads : {b : Bool} {d : ℕ} → IsReaderOf b d alias_at IsAlias true (only kinds.As ++ names) (only kinds.As ++ names)
 unfolding alias_at
 alias_reads = wide _ _ refl refl refl (pick_reads (after_reads kinds.As refl (made_reads Some name_reads)) (optional_reads name_reads) refl)
 
-pub tab_reads : {b : Bool} {d : ℕ} → Reads b d tab_at IsTab false names (only kinds.As ++ names)
+pub tab_reads : {b : Bool} {d : ℕ} → IsReaderOf b d tab_at IsTab false names (only kinds.As ++ names)
 unfolding tab_at
 tab_reads = wide _ _ refl refl refl (then_reads name_reads (λ t. made_reads (λ c. record { table = t; correlation = c }) alias_reads) refl)
 
@@ -46,7 +46,7 @@ after_item = only kinds.As ++ names ++ after_expr
 abbrev in_value : Kinds
 in_value = in_rest ++ only kinds.As ++ names
 
-value_reads : {b : Bool} {d : ℕ} {w : Readers} → Ready d w → (x : Expr) → Reads b d (value_on w x) (ValueOn x) true in_value after_item
+value_reads : {b : Bool} {d : ℕ} {w : Readers} → Ready d w → (x : Expr) → IsReaderOf b d (value_on w x) (ValueOn x) true in_value after_item
 unfolding value_on
 value_reads r x = wide _ _ refl refl refl (then_reads (rest_reads r x) (λ e. made_reads (items.Value e) alias_reads) refl)
 
@@ -57,7 +57,7 @@ Starred p = Either (After kinds.Dot (Either (Means kinds.Star (items.AllOf p.1))
 abbrev in_starred : Kinds
 in_starred = only kinds.Dot ++ only kinds.Open ++ only kinds.Text ++ in_value
 
-starred_reads : {b : Bool} {d : ℕ} {w : Readers} → Ready d w → (p : Option Call × List ℕ) → Reads b d (starred_on w p) (Starred p) true in_starred after_item
+starred_reads : {b : Bool} {d : ℕ} {w : Readers} → Ready d w → (p : Option Call × List ℕ) → IsReaderOf b d (starred_on w p) (Starred p) true in_starred after_item
 unfolding starred_on
 starred_reads r p = wide _ _ refl refl refl (pick_reads (after_reads kinds.Dot refl (pick_reads (means_reads kinds.Star (items.AllOf p.1) refl) (then_reads name_reads (λ m. value_reads r (a_column (of_table p.1 m))) refl) refl))
     (then_reads (called_reads r p.0 p.1) (value_reads r) refl) refl)
@@ -65,7 +65,7 @@ starred_reads r p = wide _ _ refl refl refl (pick_reads (after_reads kinds.Dot r
 abbrev Unnamed : Lang Expr
 Unnamed = Either (Parens InExpr) IsLiteral
 
-unnamed_reads : {b : Bool} {d : ℕ} {w : Readers} → Ready d w → Reads b d (unnamed_at w) Unnamed false (only kinds.Open ++ in_literal) []
+unnamed_reads : {b : Bool} {d : ℕ} {w : Readers} → Ready d w → IsReaderOf b d (unnamed_at w) Unnamed false (only kinds.Open ++ in_literal) []
 unfolding unnamed_at
 unnamed_reads {b} {d} {w} r = wide _ _ refl refl refl (pick_reads (parens_reads r (in_parens w) refl) (literal_reads r) refl)
 
@@ -132,27 +132,27 @@ of_item s ts x (inr p) = let q = of_value s ts x p in go q q.3
               q.5 ∙ ap (λ (u : List Token). u ++ q.1) m.5 ∙ append_assoc m.0 m.1 q.1,
             )
 
-pub item_reads : {b : Bool} {d : ℕ} {w : Readers} → Ready d w → Reads b d (item_at w) IsItem false in_fact after_item
+pub item_reads : {b : Bool} {d : ℕ} {w : Readers} → Ready d w → IsReaderOf b d (item_at w) IsItem false in_fact after_item
 unfolding item_at
 item_reads r = wide _ _ refl refl refl (same_reads IsItem to_item of_item (pick_reads (then_reads word_at_reads (starred_reads r) refl) (then_reads (unnamed_reads r) (value_reads r) refl) refl))
 
 abbrev after_items : Kinds
 after_items = only kinds.Comma ++ after_item
 
-items_reads : {b : Bool} {d : ℕ} {w : Readers} → Ready d w → Reads b d (items_at w) IsItems false (only kinds.Star ++ in_fact) after_items
+items_reads : {b : Bool} {d : ℕ} {w : Readers} → Ready d w → IsReaderOf b d (items_at w) IsItems false (only kinds.Star ++ in_fact) after_items
 unfolding items_at
 items_reads r = wide _ _ refl refl refl (pick_reads (means_reads kinds.Star (items.Everything ∷ []) refl) (listed_reads (item_reads r) refl) refl)
 
 -- ---- FROM
 
-joined_reads : {b : Bool} {d : ℕ} {w : Readers} → Ready d w → Reads b d (joined_at w) IsOn false (only kinds.Join) after_cond
+joined_reads : {b : Bool} {d : ℕ} {w : Readers} → Ready d w → IsReaderOf b d (joined_at w) IsOn false (only kinds.Join) after_cond
 unfolding joined_at
 joined_reads r = wide _ _ refl refl refl (after_reads kinds.Join refl (then_reads tab_reads (λ t. after_reads kinds.On refl (made_reads (λ c. (t, c)) (cond_reads r))) refl))
 
 abbrev after_join : Kinds
 after_join = only kinds.As ++ names ++ after_cond
 
-join_reads : {b : Bool} {d : ℕ} {w : Readers} → Ready d w → Reads b d (join_at w) IsJoin false in_join after_join
+join_reads : {b : Bool} {d : ℕ} {w : Readers} → Ready d w → IsReaderOf b d (join_at w) IsJoin false in_join after_join
 unfolding join_at
 join_reads r = wide _ _ refl refl refl (
     pick_reads (after_reads kinds.Left refl (then_reads (may_reads kinds.Outer refl) (λ _. made_reads (λ p. joins.Left p.0 p.1) (joined_reads r)) refl))
@@ -162,51 +162,51 @@ join_reads r = wide _ _ refl refl refl (
 abbrev after_chain : Kinds
 after_chain = in_join ++ after_join
 
-chain_reads : {b : Bool} {d : ℕ} {w : Readers} → Ready d w → Reads b d (chain_at w) IsChain false names after_chain
+chain_reads : {b : Bool} {d : ℕ} {w : Readers} → Ready d w → IsReaderOf b d (chain_at w) IsChain false names after_chain
 unfolding chain_at
 chain_reads r = wide _ _ refl refl refl (then_reads tab_reads (λ t. made_reads (λ js. roll-Chain (record { first = t; joins = js })) (many_reads (join_reads r) refl)) refl)
 
 -- ---- queries
 
-pub where_reads : {b : Bool} {d : ℕ} {w : Readers} → Ready d w → Reads b d (where_at w) IsWhere true (only kinds.Where) (only kinds.Where ++ after_cond)
+pub where_reads : {b : Bool} {d : ℕ} {w : Readers} → Ready d w → IsReaderOf b d (where_at w) IsWhere true (only kinds.Where) (only kinds.Where ++ after_cond)
 unfolding where_at
 where_reads r = wide _ _ refl refl refl (optional_reads (after_reads kinds.Where refl (cond_reads r)))
 
 abbrev after_group : Kinds
 after_group = only kinds.Group ++ only kinds.Comma ++ only kinds.Dot
 
-group_reads : {b : Bool} {d : ℕ} → Reads b d group_at IsGroup true (only kinds.Group) after_group
+group_reads : {b : Bool} {d : ℕ} → IsReaderOf b d group_at IsGroup true (only kinds.Group) after_group
 unfolding group_at
 group_reads = wide _ _ refl refl refl (pick_reads (after_reads kinds.Group refl (after_reads kinds.By refl (listed_reads column_reads refl))) (give_reads []) refl)
 
-having_reads : {b : Bool} {d : ℕ} {w : Readers} → Ready d w → Reads b d (having_at w) IsHaving true (only kinds.Having) (only kinds.Having ++ after_cond)
+having_reads : {b : Bool} {d : ℕ} {w : Readers} → Ready d w → IsReaderOf b d (having_at w) IsHaving true (only kinds.Having) (only kinds.Having ++ after_cond)
 unfolding having_at
 having_reads r = wide _ _ refl refl refl (optional_reads (after_reads kinds.Having refl (cond_reads r)))
 
-pub query_reads : {b : Bool} {d : ℕ} {w : Readers} → Ready d w → Reads b d (query_at w) IsQuery false (only kinds.Select) after_query
+pub query_reads : {b : Bool} {d : ℕ} {w : Readers} → Ready d w → IsReaderOf b d (query_at w) IsQuery false (only kinds.Select) after_query
 unfolding query_at
 query_reads r = wide _ _ refl refl refl (after_reads kinds.Select refl (then_reads (flag_reads kinds.Distinct refl) (λ d. then_reads (items_reads r) (λ is. after_reads kinds.From refl (then_reads (listed_reads (chain_reads r) refl) (λ cs.
     then_reads (where_reads r) (λ f. then_reads group_reads (λ g. made_reads (λ h. roll-Query (record { distinct = d; items = is; from = cs; filter = f; group = g; having = h })) (having_reads r)) refl) refl) refl)) refl) refl))
 
-direction_reads : {b : Bool} {d : ℕ} → Reads b d direction_at IsDirection true (only kinds.Asc ++ only kinds.Desc) (only kinds.Asc ++ only kinds.Desc)
+direction_reads : {b : Bool} {d : ℕ} → IsReaderOf b d direction_at IsDirection true (only kinds.Asc ++ only kinds.Desc) (only kinds.Asc ++ only kinds.Desc)
 unfolding direction_at
 direction_reads = wide _ _ refl refl refl (pick_reads (means_reads kinds.Asc directions.Ascending refl) (pick_reads (means_reads kinds.Desc directions.Descending refl) (give_reads directions.Ascending) refl) refl)
 
 abbrev after_key : Kinds
 after_key = only kinds.Asc ++ only kinds.Desc ++ after_expr
 
-key_reads : {b : Bool} {d : ℕ} {w : Readers} → Ready d w → Reads b d (sort_key_at w) IsSortKey false in_fact after_key
+key_reads : {b : Bool} {d : ℕ} {w : Readers} → Ready d w → IsReaderOf b d (sort_key_at w) IsSortKey false in_fact after_key
 unfolding sort_key_at
 key_reads r = wide _ _ refl refl refl (then_reads (expr_reads r) (λ e. made_reads (λ d. record { by = e; direction = d }) direction_reads) refl)
 
 abbrev after_order : Kinds
 after_order = only kinds.Order ++ only kinds.Comma ++ after_key
 
-order_reads : {b : Bool} {d : ℕ} {w : Readers} → Ready d w → Reads b d (order_at w) IsOrder true (only kinds.Order) after_order
+order_reads : {b : Bool} {d : ℕ} {w : Readers} → Ready d w → IsReaderOf b d (order_at w) IsOrder true (only kinds.Order) after_order
 unfolding order_at
 order_reads r = wide _ _ refl refl refl (pick_reads (after_reads kinds.Order refl (after_reads kinds.By refl (listed_reads (key_reads r) refl))) (give_reads []) refl)
 
-fetch_reads : {b : Bool} {d : ℕ} → Reads b d fetch_at IsFetch false (only kinds.Fetch) []
+fetch_reads : {b : Bool} {d : ℕ} → IsReaderOf b d fetch_at IsFetch false (only kinds.Fetch) []
 unfolding fetch_at row_count_at
 fetch_reads = wide _ _ refl refl refl (after_reads kinds.Fetch refl (after_reads kinds.First refl (then_reads (pick_reads count_reads (give_reads (pos 1)) refl) (λ n.
     then_reads (pick_reads (word_reads kinds.Row refl) (word_reads kinds.Rows refl) refl) (λ _. means_reads kinds.Only n refl) refl) refl)))
@@ -214,7 +214,7 @@ fetch_reads = wide _ _ refl refl refl (after_reads kinds.Fetch refl (after_reads
 abbrev pub after_select : Kinds
 after_select = only kinds.Fetch ++ after_order ++ after_query
 
-pub select_reads : {b : Bool} {d : ℕ} {w : Readers} → Ready d w → Reads b d (select_at w) IsSelect false (only kinds.Select) after_select
+pub select_reads : {b : Bool} {d : ℕ} {w : Readers} → Ready d w → IsReaderOf b d (select_at w) IsSelect false (only kinds.Select) after_select
 unfolding select_at may_fetch_at
 select_reads r = wide _ _ refl refl refl (then_reads (query_reads r) (λ q. then_reads (order_reads r) (λ o. made_reads (λ f. record { query = q; order = o; fetch = f }) (optional_reads fetch_reads)) refl) refl)
 

@@ -9,7 +9,7 @@ use Rattle.lb_readt.specs.Readers.{Why, bad, deep, Answer, got, stop, Reader, he
 use Rattle.lb_tok.specs.Limit.{walk}
 use Rattle.lb_tok.specs.Refusals.{Spells, NoneThrough, TooDeep}
 
--- why reading stops behind the tokens of front: no statement goes on with the next token, or it opens one bracket too many
+-- why reading stops after the tokens of front: no statement goes on with the next token, or it opens one bracket too many
 abbrev pub Because : Lang Stmt → Why → ℕ → List Token → List Token → Type 0
 Because P bad d front rest = ((e : ℕ) × (walk front d ≡ Some e)) × NoneThrough P front rest
 Because P deep d front rest = TooDeep d front rest

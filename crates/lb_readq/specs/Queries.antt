@@ -1,5 +1,5 @@
 -- Queries and writes, read from left to right by the next token. X_at reads the production X of the grammar, where w says what
--- reads in brackets; X_on reads the rest of it behind a part that is given. Where two alternatives begin alike, the reader
+-- reads in brackets; X_on reads the rest of it after a part that is given. Where two alternatives begin alike, the reader
 -- takes what they share first.
 use Rattle.std.specs.Prelude.{ℕ, zero, suc, List, [], ◌∷◌, ◌++◌, true, false, Option, Some, ℤ, pos}
 use Rattle.lb_tree.specs.declared.query.Expr.{Expr}
@@ -42,11 +42,11 @@ alias_at = pick (only kinds.As) (after kinds.As (made Some name_at)) (optional n
 unfoldable pub tab_at : Reader Tab
 tab_at = seq name_at (λ t. made (λ c. record { table = t; correlation = c }) alias_at)
 
--- an item behind its first factor
+-- an item after its first factor
 unfoldable pub value_on : Readers → Expr → Reader Item
 value_on w x = seq (rest_at w x) (λ e. made (items.Value e) alias_at)
 
--- an item behind its first name: `. *`, or the rest of an expression
+-- an item after its first name: `. *`, or the rest of an expression
 unfoldable pub starred_on : Readers → Option Call × List ℕ → Reader Item
 starred_on w p = pick (only kinds.Dot)
     (after kinds.Dot (pick (only kinds.Star) (means kinds.Star (items.AllOf p.1)) (seq name_at (λ m. value_on w (a_column (of_table p.1 m))))))
@@ -168,6 +168,6 @@ abbrev pub ended : {A : Type 0} → A → Reader A
 ended x [] = got x []
 ended x (t ∷ ts) = stop bad (t ∷ ts)
 
--- a query or a write, and nothing behind it
+-- a query or a write, and nothing after it
 unfoldable pub statement_at : ℕ → Reader Stmt
 statement_at d = seq (query_or_write_at (readers d)) ended

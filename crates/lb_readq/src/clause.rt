@@ -1,13 +1,13 @@
-// Queries, clause by clause.
+// Reads a query, clause by clause.
 ghost use Rattle.std.specs.Prelude.{◌<◌, Some, None};
 ghost use Rattle.lb_readt.specs.Readers.{flag};
 ghost use Rattle.lb_readt.specs.Answering.{Gives};
 ghost use Rattle.lb_readq.specs.Queries.{where_at, having_at, group_at, query_at};
 
 use crate::item::items;
-use crate::table::{chain, chains};
+use crate::table::chains;
 use lb_reade::{Brackets, cond};
-use lb_readt::{Read, column, columns, flag, next_is, take, with_first};
+use lb_readt::{Read, columns, flag, take, take_if};
 use lb_tok::{Kind, Token};
 use lb_tree::{Column, Cond, Query};
 use sqlite_items::{Boxed, Items};
@@ -15,7 +15,7 @@ use std::alloc::Global;
 
 // [WHERE cond]
 #[tactic(auto, unfolding(crate::specs::Queries::where_at))]
-fn filter<'a, B: Brackets<'a>>(
+fn filter<'a, B: Brackets>(
     alloc: Global,
     tokens: &'a [Token],
     brackets: &B,
@@ -23,8 +23,7 @@ fn filter<'a, B: Brackets<'a>>(
     requires { B.ready brackets.now }
     ensures { Gives (λ r. (r.0, r.1.now)) result (where_at (B.readers brackets.now) tokens.now) }
 {
-    if next_is(tokens, Kind::Where) {
-        let rest = take(tokens, Kind::Where)?;
+    if let Some(rest) = take_if(tokens, Kind::Where) {
         let (value, rest) = cond(alloc, rest, brackets)?;
         Ok((Some(Boxed::new(alloc, value)?), rest))
     } else {
@@ -34,7 +33,7 @@ fn filter<'a, B: Brackets<'a>>(
 
 // [HAVING cond]
 #[tactic(auto, unfolding(crate::specs::Queries::having_at))]
-fn having<'a, B: Brackets<'a>>(
+fn having<'a, B: Brackets>(
     alloc: Global,
     tokens: &'a [Token],
     brackets: &B,
@@ -42,8 +41,7 @@ fn having<'a, B: Brackets<'a>>(
     requires { B.ready brackets.now }
     ensures { Gives (λ r. (r.0, r.1.now)) result (having_at (B.readers brackets.now) tokens.now) }
 {
-    if next_is(tokens, Kind::Having) {
-        let rest = take(tokens, Kind::Having)?;
+    if let Some(rest) = take_if(tokens, Kind::Having) {
         let (value, rest) = cond(alloc, rest, brackets)?;
         Ok((Some(Boxed::new(alloc, value)?), rest))
     } else {
@@ -56,12 +54,9 @@ fn having<'a, B: Brackets<'a>>(
 fn group<'a>(alloc: Global, tokens: &'a [Token]) -> Read<'a, Items<Column>>
     ensures { Gives (λ r. (r.0, r.1.now)) result (group_at tokens.now) }
 {
-    if next_is(tokens, Kind::Group) {
-        let rest = take(tokens, Kind::Group)?;
+    if let Some(rest) = take_if(tokens, Kind::Group) {
         let rest = take(rest, Kind::By)?;
-        let (first, rest) = column(rest)?;
-        let (more, rest) = columns(alloc, rest)?;
-        Ok((with_first(alloc, first, more)?, rest))
+        columns(alloc, rest)
     } else {
         Ok((Items::new(alloc), tokens))
     }
@@ -69,11 +64,7 @@ fn group<'a>(alloc: Global, tokens: &'a [Token]) -> Read<'a, Items<Column>>
 
 /// Reads a query without order, `SELECT [DISTINCT] items FROM chain {, chain} [WHERE cond] [GROUP BY col {, col}] [HAVING cond]`.
 #[tactic(auto, unfolding(crate::specs::Queries::query_at))]
-pub fn query<'a, B: Brackets<'a>>(
-    alloc: Global,
-    tokens: &'a [Token],
-    brackets: &B,
-) -> Read<'a, Query>
+pub fn query<'a, B: Brackets>(alloc: Global, tokens: &'a [Token], brackets: &B) -> Read<'a, Query>
     requires { B.ready brackets.now }
     ensures { Gives (λ r. (r.0, r.1.now)) result (query_at (B.readers brackets.now) tokens.now) }
 {
@@ -81,12 +72,10 @@ pub fn query<'a, B: Brackets<'a>>(
     let (distinct, rest) = flag(rest, Kind::Distinct);
     let (items, rest) = items(alloc, rest, brackets)?;
     let rest = take(rest, Kind::From)?;
-    let (first, rest) = chain(alloc, rest, brackets)?;
-    let (more, rest) = chains(alloc, rest, brackets)?;
+    let (from, rest) = chains(alloc, rest, brackets)?;
     let (filter, rest) = filter(alloc, rest, brackets)?;
     let (group, rest) = group(alloc, rest)?;
     let (having, rest) = having(alloc, rest, brackets)?;
-    let from = with_first(alloc, first, more)?;
     Ok((
         Query {
             distinct,

@@ -1,6 +1,6 @@
-// The outputs of a query.
+// Reads the items of a select list: `*`, `name.*`, expressions with their output names.
 ghost use Rattle.std.specs.Prelude.{◌<◌};
-ghost use Rattle.lb_readt.specs.Readers.{after, commas};
+ghost use Rattle.lb_readt.specs.Readers.{listed};
 ghost use Rattle.lb_readt.specs.Answering.{Gives};
 ghost use Rattle.lb_readq.specs.Queries.{value_on, starred_on, item_at, items_at};
 ghost use Rattle.lb_reade.specs.Expressions.{unnamed_at};
@@ -8,15 +8,15 @@ ghost use Rattle.lb_reade.specs.Expressions.{unnamed_at};
 use crate::table::alias;
 use lb_base::Name;
 use lb_reade::{Brackets, called, column_of, in_parens, literal, rest_on};
-use lb_readt::{Read, name, next_is, next_is_name, take, with_first, word};
+use lb_readt::{Read, listed, name, next_is, next_is_name, take_if, with_first, word};
 use lb_tok::{Call, Kind, Token};
 use lb_tree::{Expr, Item};
 use sqlite_items::Items;
 use std::alloc::Global;
 
-// The rest of an item behind its first factor, with its name if it has one.
+// The rest of an item after its first factor, with its name if it has one.
 #[tactic(auto, unfolding(crate::specs::Queries::value_on))]
-fn value_on<'a, B: Brackets<'a>>(
+fn value_on<'a, B: Brackets>(
     alloc: Global,
     tokens: &'a [Token],
     brackets: &B,
@@ -30,9 +30,9 @@ fn value_on<'a, B: Brackets<'a>>(
     Ok((Item::Value(value, name), rest))
 }
 
-// The rest of an item behind its first name: `. *`, or the rest of an expression.
+// The rest of an item after its first name: `. *`, or the rest of an expression.
 #[tactic(auto, unfolding(crate::specs::Queries::starred_on))]
-fn starred_on<'a, B: Brackets<'a>>(
+fn starred_on<'a, B: Brackets>(
     alloc: Global,
     tokens: &'a [Token],
     brackets: &B,
@@ -42,10 +42,8 @@ fn starred_on<'a, B: Brackets<'a>>(
     requires { B.ready brackets.now }
     ensures { Gives (λ r. (r.0, r.1.now)) result (starred_on (B.readers brackets.now) (call, first.now) tokens.now) }
 {
-    if next_is(tokens, Kind::Dot) {
-        let rest = take(tokens, Kind::Dot)?;
-        if next_is(rest, Kind::Star) {
-            let rest = take(rest, Kind::Star)?;
+    if let Some(rest) = take_if(tokens, Kind::Dot) {
+        if let Some(rest) = take_if(rest, Kind::Star) {
             Ok((Item::AllOf(first.copy()?), rest))
         } else {
             let (name, rest) = name(rest)?;
@@ -59,7 +57,7 @@ fn starred_on<'a, B: Brackets<'a>>(
 
 // A factor that begins with no name.
 #[tactic(auto, unfolding(lb_reade::specs::Expressions::unnamed_at))]
-fn unnamed<'a, B: Brackets<'a>>(alloc: Global, tokens: &'a [Token], brackets: &B) -> Read<'a, Expr>
+fn unnamed<'a, B: Brackets>(alloc: Global, tokens: &'a [Token], brackets: &B) -> Read<'a, Expr>
     requires { B.ready brackets.now }
     ensures { Gives (λ r. (r.0, r.1.now)) result (unnamed_at (B.readers brackets.now) tokens.now) }
 {
@@ -72,7 +70,7 @@ fn unnamed<'a, B: Brackets<'a>>(alloc: Global, tokens: &'a [Token], brackets: &B
 
 // item = name . * | expr [[AS] name]
 #[tactic(auto, unfolding(crate::specs::Queries::item_at))]
-fn item<'a, B: Brackets<'a>>(alloc: Global, tokens: &'a [Token], brackets: &B) -> Read<'a, Item>
+fn item<'a, B: Brackets>(alloc: Global, tokens: &'a [Token], brackets: &B) -> Read<'a, Item>
     requires { B.ready brackets.now }
     ensures { Gives (λ r. (r.0, r.1.now)) result (item_at (B.readers brackets.now) tokens.now) }
 {
@@ -85,33 +83,21 @@ fn item<'a, B: Brackets<'a>>(alloc: Global, tokens: &'a [Token], brackets: &B) -
     }
 }
 
-// {, item}
-fn more_items<'a, B: Brackets<'a>>(
+// item {, item}
+fn item_list<'a, B: Brackets>(
     alloc: Global,
     tokens: &'a [Token],
     brackets: &B,
 ) -> Read<'a, Items<Item>>
     requires { B.ready brackets.now }
-    ensures { Gives (λ r. (r.0, r.1.now)) result (commas (item_at (B.readers brackets.now)) tokens.now) }
+    ensures { Gives (λ r. (r.0, r.1.now)) result (listed (item_at (B.readers brackets.now)) tokens.now) }
 {
-    let mut parts = Items::new(alloc);
-    let mut rest = tokens;
-    for _ in 0..tokens.len() {
-        if next_is(rest, Kind::Comma) {
-            let after = take(rest, Kind::Comma)?;
-            let (part, after) = item(alloc, after, brackets)?;
-            parts.push(part)?;
-            rest = after;
-        } else {
-            return Ok((parts, rest));
-        }
-    }
-    Ok((parts, rest))
+    listed(alloc, tokens, |rest| item(alloc, rest, brackets))
 }
 
 /// Reads the outputs of a query, `* | item {, item}`.
 #[tactic(auto, unfolding(crate::specs::Queries::items_at))]
-pub fn items<'a, B: Brackets<'a>>(
+pub fn items<'a, B: Brackets>(
     alloc: Global,
     tokens: &'a [Token],
     brackets: &B,
@@ -119,15 +105,12 @@ pub fn items<'a, B: Brackets<'a>>(
     requires { B.ready brackets.now }
     ensures { Gives (λ r. (r.0, r.1.now)) result (items_at (B.readers brackets.now) tokens.now) }
 {
-    if next_is(tokens, Kind::Star) {
-        let rest = take(tokens, Kind::Star)?;
+    if let Some(rest) = take_if(tokens, Kind::Star) {
         Ok((
             with_first(alloc, Item::Everything, Items::new(alloc))?,
             rest,
         ))
     } else {
-        let (first, rest) = item(alloc, tokens, brackets)?;
-        let (more, rest) = more_items(alloc, rest, brackets)?;
-        Ok((with_first(alloc, first, more)?, rest))
+        item_list(alloc, tokens, brackets)
     }
 }

@@ -19,6 +19,6 @@ pub fn reading_is_exact()
 {}
 
 /// No list of tokens spells two queries or writes. It runs nothing.
-pub fn no_tokens_have_two_trees()
+pub fn no_tokens_spell_two_queries_or_writes()
     ensures { Unique IsQueryOrWrite }
 {}

@@ -20,22 +20,22 @@ struct Through<F> {
     read: F,
 }
 
-impl<'a, F: Fn(&'a [Token], Wanted) -> Read<'a, Inside>> Brackets<'a> for Through<F> {
+impl<F: for<'t> Fn(&'t [Token], Wanted) -> Read<'t, Inside>> Brackets for Through<F> {
     ghost readers = { λ s. readers s.depth };
 
     ghost ready = { λ s. F.IsAlwaysCallable s.read × ((tokens : _) (wanted : _) (r : _) → F.post s.read tokens wanted r
         → Gives (λ r. (inner_of r.0, r.1.now)) r (within (readers s.depth) wanted tokens.now)) };
 
-    fn open(&self, tokens: &'a [Token], kind: Kind) -> Result<&'a [Token], Fault<'a>> {
+    fn open<'a>(&self, tokens: &'a [Token], kind: Kind) -> Result<&'a [Token], Fault<'a>> {
         open(tokens, kind, self.depth)
     }
 
-    fn inside(&self, _alloc: Global, tokens: &'a [Token], wanted: Wanted) -> Read<'a, Inside> {
+    fn inside<'a>(&self, _alloc: Global, tokens: &'a [Token], wanted: Wanted) -> Read<'a, Inside> {
         (self.read)(tokens, wanted)
     }
 }
 
-// Reads what stands behind an opener, where `depth` brackets might still open before it.
+// Reads what stands after an opener, where `depth` brackets might still open before it.
 #[cycle(levels)]
 #[tactic(auto, using(crate::proofs::Levels::one_in, crate::proofs::Levels::none_in))]
 fn below<'a>(alloc: Global, tokens: &'a [Token], depth: u32, wanted: Wanted) -> Read<'a, Inside>
@@ -48,14 +48,18 @@ fn below<'a>(alloc: Global, tokens: &'a [Token], depth: u32, wanted: Wanted) -> 
     }
 }
 
-// Reads what is wanted, where `depth` brackets may still open.
-#[cycle(levels)]
-fn level<'a>(alloc: Global, tokens: &'a [Token], depth: u32, wanted: Wanted) -> Read<'a, Inside>
+// Reads what is wanted, where `depth` brackets may still open and `read` reads what stands in them.
+fn read_through<'a, F: for<'t> Fn(&'t [Token], Wanted) -> Read<'t, Inside>>(
+    alloc: Global,
+    tokens: &'a [Token],
+    depth: u32,
+    wanted: Wanted,
+    read: F,
+) -> Read<'a, Inside>
+    requires called { F.IsAlwaysCallable read }
+    requires reads { (rest : _) (wanted : _) (r : _) → F.post read rest wanted r → Gives (λ r. (inner_of r.0, r.1.now)) r (within (readers depth) wanted rest.now) }
     ensures { Gives (λ r. (inner_of r.0, r.1.now)) result (level_at (readers depth) wanted tokens.now) }
 {
-    let read = |rest, wanted|
-        ensures { Gives (λ r. (inner_of r.0, r.1.now)) result (within (readers depth) wanted rest.now) }
-    { below(alloc, rest, depth, wanted) };
     let brackets = Through { depth, read };
     match wanted {
         Wanted::Expr => {
@@ -80,6 +84,22 @@ fn level<'a>(alloc: Global, tokens: &'a [Token], depth: u32, wanted: Wanted) -> 
     }
 }
 
+// Reads what is wanted, where `depth` brackets may still open.
+#[cycle(levels)]
+fn level<'a>(alloc: Global, tokens: &'a [Token], depth: u32, wanted: Wanted) -> Read<'a, Inside>
+    ensures { Gives (λ r. (inner_of r.0, r.1.now)) result (level_at (readers depth) wanted tokens.now) }
+{
+    read_through(
+        alloc,
+        tokens,
+        depth,
+        wanted,
+        |rest, wanted|
+            ensures { Gives (λ r. (inner_of r.0, r.1.now)) result (within (readers depth) wanted rest.now) }
+        { below(alloc, rest, depth, wanted) },
+    )
+}
+
 /// Brackets of which a certain number may still open.
 #[derive(Clone, Copy)]
 pub struct Depth {
@@ -87,16 +107,16 @@ pub struct Depth {
     pub left: u32,
 }
 
-impl<'a> Brackets<'a> for Depth {
+impl Brackets for Depth {
     ghost readers = { λ s. readers s.left };
 
     ghost ready = { λ _. ⊤ };
 
-    fn open(&self, tokens: &'a [Token], kind: Kind) -> Result<&'a [Token], Fault<'a>> {
+    fn open<'a>(&self, tokens: &'a [Token], kind: Kind) -> Result<&'a [Token], Fault<'a>> {
         open(tokens, kind, self.left)
     }
 
-    fn inside(&self, alloc: Global, tokens: &'a [Token], wanted: Wanted) -> Read<'a, Inside> {
+    fn inside<'a>(&self, alloc: Global, tokens: &'a [Token], wanted: Wanted) -> Read<'a, Inside> {
         below(alloc, tokens, self.left, wanted)
     }
 }

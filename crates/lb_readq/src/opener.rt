@@ -7,7 +7,7 @@ ghost use Rattle.lb_readq.specs.Queries.{readers};
 use lb_readt::{Fault, next_is, take};
 use lb_tok::{Kind, Token};
 
-/// Takes an opener of this kind, where `depth` brackets may still open: the tokens behind it. `Deep` at an opener where
+/// Takes an opener of this kind, where `depth` brackets may still open: the tokens after it. `Deep` at an opener where
 /// `depth` is 0, `Bad` at any other token.
 #[tactic(auto, using(crate::proofs::Rooms::no_room, crate::proofs::Rooms::has_room))]
 pub fn open<'a>(tokens: &'a [Token], kind: Kind, depth: u32) -> Result<&'a [Token], Fault<'a>>

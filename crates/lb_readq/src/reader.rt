@@ -4,7 +4,7 @@ ghost use Rattle.lb_reade.specs.Expressions.{cond_at, case_at};
 ghost use Rattle.lb_readq.specs.Queries.{readers, select_at};
 
 use crate::level::Depth;
-use crate::order;
+use crate::select_statement;
 use lb_readt::Read;
 use lb_tok::Token;
 use lb_tree::{Cond, Expr, Select};
@@ -28,5 +28,5 @@ pub fn case<'a>(alloc: Global, tokens: &'a [Token], depth: u32) -> Read<'a, Expr
 pub fn select<'a>(alloc: Global, tokens: &'a [Token], depth: u32) -> Read<'a, Select>
     ensures { Gives (λ r. (r.0, r.1.now)) result (select_at (readers depth) tokens.now) }
 {
-    order::select(alloc, tokens, &Depth { left: depth })
+    select_statement::select(alloc, tokens, &Depth { left: depth })
 }

@@ -1,12 +1,12 @@
-// Tables and their joins.
+// Reads the tables of FROM and their joins.
 ghost use Rattle.std.specs.Prelude.{◌≡◌, ◌<◌, [], Some, None, false};
-ghost use Rattle.lb_readt.specs.Readers.{heads, many, after, commas};
+ghost use Rattle.lb_readt.specs.Readers.{heads, many, listed};
 ghost use Rattle.lb_readt.specs.Answering.{Gives};
 ghost use Rattle.lb_readq.specs.Queries.{alias_at, tab_at, joined_at, join_at, in_join, chain_at};
 
 use lb_base::Name;
 use lb_reade::{Brackets, cond};
-use lb_readt::{Read, name, next_is, next_is_name, noise, take};
+use lb_readt::{Read, listed, many, name, next_is_name, noise, take, take_if};
 use lb_tok::{Kind, Token};
 use lb_tree::{Chain, Cond, Join, Tab};
 use sqlite_items::Items;
@@ -17,8 +17,7 @@ use std::alloc::Global;
 pub fn alias<'a>(tokens: &'a [Token]) -> Read<'a, Option<Name>>
     ensures { Gives (λ r. (r.0, r.1.now)) result (alias_at tokens.now) }
 {
-    if next_is(tokens, Kind::As) {
-        let rest = take(tokens, Kind::As)?;
+    if let Some(rest) = take_if(tokens, Kind::As) {
         let (name, rest) = name(rest)?;
         Ok((Some(name), rest))
     } else if next_is_name(tokens) {
@@ -29,7 +28,7 @@ pub fn alias<'a>(tokens: &'a [Token]) -> Read<'a, Option<Name>>
     }
 }
 
-/// Reads a table with its correlation name, `name [[AS] name]`. `Bad` where no name stands first or behind AS.
+/// Reads a table with its correlation name, `name [[AS] name]`. `Bad` where no name stands first or after AS.
 #[tactic(auto, unfolding(crate::specs::Queries::tab_at))]
 pub fn tab<'a>(tokens: &'a [Token]) -> Read<'a, Tab>
     ensures { Gives (λ r. (r.0, r.1.now)) result (tab_at tokens.now) }
@@ -41,11 +40,7 @@ pub fn tab<'a>(tokens: &'a [Token]) -> Read<'a, Tab>
 
 // JOIN tab ON cond
 #[tactic(auto, unfolding(crate::specs::Queries::joined_at))]
-fn on<'a, B: Brackets<'a>>(
-    alloc: Global,
-    tokens: &'a [Token],
-    brackets: &B,
-) -> Read<'a, (Tab, Cond)>
+fn on<'a, B: Brackets>(alloc: Global, tokens: &'a [Token], brackets: &B) -> Read<'a, (Tab, Cond)>
     requires { B.ready brackets.now }
     ensures { Gives (λ r. (r.0, r.1.now)) result (joined_at (B.readers brackets.now) tokens.now) }
 {
@@ -58,17 +53,15 @@ fn on<'a, B: Brackets<'a>>(
 
 // join = [INNER] JOIN tab ON cond | LEFT [OUTER] JOIN tab ON cond | CROSS JOIN tab
 #[tactic(auto, unfolding(crate::specs::Queries::join_at))]
-fn join<'a, B: Brackets<'a>>(alloc: Global, tokens: &'a [Token], brackets: &B) -> Read<'a, Join>
+fn join<'a, B: Brackets>(alloc: Global, tokens: &'a [Token], brackets: &B) -> Read<'a, Join>
     requires { B.ready brackets.now }
     ensures { Gives (λ r. (r.0, r.1.now)) result (join_at (B.readers brackets.now) tokens.now) }
 {
-    if next_is(tokens, Kind::Left) {
-        let rest = take(tokens, Kind::Left)?;
+    if let Some(rest) = take_if(tokens, Kind::Left) {
         let rest = noise(rest, Kind::Outer);
         let ((tab, condition), rest) = on(alloc, rest, brackets)?;
         Ok((Join::Left(tab, condition), rest))
-    } else if next_is(tokens, Kind::Cross) {
-        let rest = take(tokens, Kind::Cross)?;
+    } else if let Some(rest) = take_if(tokens, Kind::Cross) {
         let rest = take(rest, Kind::Join)?;
         let (tab, rest) = tab(rest)?;
         Ok((Join::Cross(tab), rest))
@@ -80,35 +73,21 @@ fn join<'a, B: Brackets<'a>>(alloc: Global, tokens: &'a [Token], brackets: &B) -
 }
 
 // {join}
-fn joins<'a, B: Brackets<'a>>(
-    alloc: Global,
-    tokens: &'a [Token],
-    brackets: &B,
-) -> Read<'a, Items<Join>>
+fn joins<'a, B: Brackets>(alloc: Global, tokens: &'a [Token], brackets: &B) -> Read<'a, Items<Join>>
     requires { B.ready brackets.now }
     ensures { Gives (λ r. (r.0, r.1.now)) result (many in_join (join_at (B.readers brackets.now)) tokens.now) }
 {
-    let mut parts = Items::new(alloc);
-    let mut rest = tokens;
-    for _ in 0..tokens.len() {
-        if next_is_join(rest) {
-            let (part, after) = join(alloc, rest, brackets)?;
-            parts.push(part)?;
-            rest = after;
-        } else {
-            return Ok((parts, rest));
-        }
-    }
-    Ok((parts, rest))
+    many(
+        alloc,
+        tokens,
+        |rest| next_is_join(rest),
+        |rest| join(alloc, rest, brackets),
+    )
 }
 
-/// Reads a table with the tables joined to it, `tab {join}`.
+// tab {join}
 #[tactic(auto, unfolding(crate::specs::Queries::chain_at))]
-pub fn chain<'a, B: Brackets<'a>>(
-    alloc: Global,
-    tokens: &'a [Token],
-    brackets: &B,
-) -> Read<'a, Chain>
+fn chain<'a, B: Brackets>(alloc: Global, tokens: &'a [Token], brackets: &B) -> Read<'a, Chain>
     requires { B.ready brackets.now }
     ensures { Gives (λ r. (r.0, r.1.now)) result (chain_at (B.readers brackets.now) tokens.now) }
 {
@@ -117,28 +96,16 @@ pub fn chain<'a, B: Brackets<'a>>(
     Ok((Chain { first, joins }, rest))
 }
 
-/// Reads `{, chain}`: further chains, each behind a comma; none where no comma comes next.
-pub fn chains<'a, B: Brackets<'a>>(
+/// Reads `chain {, chain}`.
+pub fn chains<'a, B: Brackets>(
     alloc: Global,
     tokens: &'a [Token],
     brackets: &B,
 ) -> Read<'a, Items<Chain>>
     requires { B.ready brackets.now }
-    ensures { Gives (λ r. (r.0, r.1.now)) result (commas (chain_at (B.readers brackets.now)) tokens.now) }
+    ensures { Gives (λ r. (r.0, r.1.now)) result (listed (chain_at (B.readers brackets.now)) tokens.now) }
 {
-    let mut parts = Items::new(alloc);
-    let mut rest = tokens;
-    for _ in 0..tokens.len() {
-        if next_is(rest, Kind::Comma) {
-            let after = take(rest, Kind::Comma)?;
-            let (part, after) = chain(alloc, after, brackets)?;
-            parts.push(part)?;
-            rest = after;
-        } else {
-            return Ok((parts, rest));
-        }
-    }
-    Ok((parts, rest))
+    listed(alloc, tokens, |rest| chain(alloc, rest, brackets))
 }
 
 // Whether the next token begins a join.

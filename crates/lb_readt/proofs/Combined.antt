@@ -14,7 +14,7 @@ use Rattle.lb_readt.proofs.Sets.{disjoint, subset, within, without, has_only, em
 use Rattle.lb_readt.proofs.Joined.{Begins, Tongue, Exact, Within, firsts, lasts, both, kept, one_exact, one_tongue, give_exact, give_tongue, then_exact, then_tongue, pick_exact, either_tongue, same_exact}
 use Rattle.lb_readt.proofs.Repeats.{many_exact, many_tongue}
 
-pub record Reads (b : Bool) (d : ℕ) {A : Type 0} (f : Reader A) (P : Lang A) (n : Bool) (F E : Kinds) : Type 0 where
+pub record IsReaderOf (b : Bool) (d : ℕ) {A : Type 0} (f : Reader A) (P : Lang A) (n : Bool) (F E : Kinds) : Type 0 where
   pub tongue : Tongue level P n F
   pub exact : b ≡ true → Exact level d d f P n F E
 
@@ -34,20 +34,20 @@ no_closer : (b c : Bool) → both b c ≡ true → c ≡ true
 no_closer true c h = h
 no_closer false c h = absurd cc
 
-pub one_reads : {b : Bool} {d : ℕ} {A : Type 0} {ks : Kinds} {view : Token → Option A} (w : Token) {v : A} → has ks w.kind ≡ true → view w ≡ Some v → is_plain ks ≡ true → Reads b d (one ks view) (One ks view) false ks []
+pub one_reads : {b : Bool} {d : ℕ} {A : Type 0} {ks : Kinds} {view : Token → Option A} (w : Token) {v : A} → has ks w.kind ≡ true → view w ≡ Some v → is_plain ks ≡ true → IsReaderOf b d (one ks view) (One ks view) false ks []
 one_reads {b} {d} {A} {ks} {view} w {v} h s o = record { tongue = one_tongue ks view w v h s; exact = λ _. one_exact ks view w v h s (no_opener _ _ o) (no_closer _ _ o) }
 
-pub word_reads : {b : Bool} {d : ℕ} (k : Kind) → is_plain (only k) ≡ true → Reads b d (word k) (Word k) false (only k) []
+pub word_reads : {b : Bool} {d : ℕ} (k : Kind) → is_plain (only k) ≡ true → IsReaderOf b d (word k) (Word k) false (only k) []
 word_reads k o = one_reads (plain_token k) (has_only k) refl o
 
-pub give_reads : {b : Bool} {d : ℕ} {A : Type 0} (x : A) → Reads b d (give x) (Nothing x) true [] []
+pub give_reads : {b : Bool} {d : ℕ} {A : Type 0} (x : A) → IsReaderOf b d (give x) (Nothing x) true [] []
 give_reads x = record { tongue = give_tongue x; exact = λ _. give_exact x }
 
 pub then_reads : {b : Bool} {d : ℕ} {A B : Type 0} {f : Reader A} {P : Lang A} {g : A → Reader B} {Q : A → Lang B} {n m : Bool} {F G D E : Kinds}
-    → Reads b d f P n F D → ((x : A) → Reads b d (g x) (Q x) m G E) → disjoint G D ≡ true → Reads b d (seq f g) (Seq P Q) (both n m) (firsts n F G) (lasts m D E)
+    → IsReaderOf b d f P n F D → ((x : A) → IsReaderOf b d (g x) (Q x) m G E) → disjoint G D ≡ true → IsReaderOf b d (seq f g) (Seq P Q) (both n m) (firsts n F G) (lasts m D E)
 then_reads p q h = record { tongue = then_tongue p.tongue (λ x. (q x).tongue); exact = λ e. then_exact (p.exact e) (λ x. (q x).exact e) h }
 
-pub same_reads : {b : Bool} {d : ℕ} {A : Type 0} {f : Reader A} {P : Lang A} {n : Bool} {F E : Kinds} (Q : Lang A) → Within P Q → Within Q P → Reads b d f P n F E → Reads b d f Q n F E
+pub same_reads : {b : Bool} {d : ℕ} {A : Type 0} {f : Reader A} {P : Lang A} {n : Bool} {F E : Kinds} (Q : Lang A) → Within P Q → Within Q P → IsReaderOf b d f P n F E → IsReaderOf b d f Q n F E
 same_reads {b} {d} {A} {f} {P} {n} {F} {E} Q into back p =
     record {
       tongue = record { tokens = p.tongue.tokens; tree = p.tongue.tree; some = (p.tongue.some.0, λ m. into _ _ _ (p.tongue.some.1 m)); first = λ k ts x s. p.tongue.first k ts x (back _ _ _ s) };
@@ -55,10 +55,10 @@ same_reads {b} {d} {A} {f} {P} {n} {F} {E} Q into back p =
     }
 
 pub pick_reads : {b : Bool} {d : ℕ} {A : Type 0} {f g : Reader A} {P Q : Lang A} {m : Bool} {F G D E : Kinds}
-    → Reads b d f P false F D → Reads b d g Q m G E → disjoint G F ≡ true → Reads b d (pick F f g) (Either P Q) m (F ++ G) (kept m F ++ (D ++ E))
+    → IsReaderOf b d f P false F D → IsReaderOf b d g Q m G E → disjoint G F ≡ true → IsReaderOf b d (pick F f g) (Either P Q) m (F ++ G) (kept m F ++ (D ++ E))
 pick_reads p q h = record { tongue = either_tongue p.tongue q.tongue; exact = λ e. pick_exact (p.exact e) (q.exact e) h }
 
-pub many_reads : {b : Bool} {d : ℕ} {A : Type 0} {f : Reader A} {P : Lang A} {F D : Kinds} → Reads b d f P false F D → disjoint F D ≡ true → Reads b d (many F f) (Many P) true F (F ++ D)
+pub many_reads : {b : Bool} {d : ℕ} {A : Type 0} {f : Reader A} {P : Lang A} {F D : Kinds} → IsReaderOf b d f P false F D → disjoint F D ≡ true → IsReaderOf b d (many F f) (Many P) true F (F ++ D)
 many_reads p h = record { tongue = many_tongue p.tongue; exact = λ e. many_exact (p.exact e) h }
 
 -- larger sets
@@ -82,7 +82,7 @@ fits_is false m e h = absurd cc
 pub wide_tongue : {A : Type 0} {P : Lang A} {n m : Bool} {F : Kinds} (G : Kinds) → fits n m ≡ true → subset F G ≡ true → Tongue level P n F → Tongue level P m G
 wide_tongue {A} {P} {n} {m} {F} G h u p = record { tokens = p.tokens; tree = p.tree; some = p.some; first = λ k ts x s. begins_wide n m F G ts u (fits_is n m h) (p.first k ts x s) }
 
-pub wide : {b : Bool} {d : ℕ} {A : Type 0} {f : Reader A} {P : Lang A} {n m : Bool} {F D : Kinds} (G E : Kinds) → fits n m ≡ true → subset F G ≡ true → subset D E ≡ true → Reads b d f P n F D → Reads b d f P m G E
+pub wide : {b : Bool} {d : ℕ} {A : Type 0} {f : Reader A} {P : Lang A} {n m : Bool} {F D : Kinds} (G E : Kinds) → fits n m ≡ true → subset F G ≡ true → subset D E ≡ true → IsReaderOf b d f P n F D → IsReaderOf b d f P m G E
 wide {b} {d} {A} {f} {P} {n} {m} {F} {D} G E h u v p =
     record {
       tongue = wide_tongue G h u p.tongue;
@@ -103,34 +103,34 @@ lasts_nil : (m : Bool) (E : Kinds) → lasts m [] E ≡ E
 lasts_nil true E = refl
 lasts_nil false E = refl
 
-pub made_reads : {b : Bool} {d : ℕ} {A B : Type 0} {f : Reader A} {P : Lang A} {n : Bool} {F D : Kinds} (h : A → B) → Reads b d f P n F D → Reads b d (made h f) (Made h P) n F D
+pub made_reads : {b : Bool} {d : ℕ} {A B : Type 0} {f : Reader A} {P : Lang A} {n : Bool} {F D : Kinds} (h : A → B) → IsReaderOf b d f P n F D → IsReaderOf b d (made h f) (Made h P) n F D
 made_reads {b} {d} {A} {B} {f} {P} {n} {F} {D} h p =
     let r = then_reads p (λ x. give_reads (h x)) refl in
-    subst (λ (m : Bool). Reads b d (made h f) (Made h P) m F D) (both_true n)
-    (subst (λ (G : Kinds). Reads b d (made h f) (Made h P) (both n true) G D) (firsts_nil n F)
-    (subst (λ (G : Kinds). Reads b d (made h f) (Made h P) (both n true) (firsts n F []) G) (append-nil D) r))
+    subst (λ (m : Bool). IsReaderOf b d (made h f) (Made h P) m F D) (both_true n)
+    (subst (λ (G : Kinds). IsReaderOf b d (made h f) (Made h P) (both n true) G D) (firsts_nil n F)
+    (subst (λ (G : Kinds). IsReaderOf b d (made h f) (Made h P) (both n true) (firsts n F []) G) (append-nil D) r))
 
-pub after_reads : {b : Bool} {d : ℕ} {A : Type 0} {f : Reader A} {P : Lang A} {m : Bool} {G E : Kinds} (k : Kind) → is_plain (only k) ≡ true → Reads b d f P m G E → Reads b d (after k f) (After k P) false (only k) E
-after_reads {b} {d} {A} {f} {P} {m} {G} {E} k o p = subst (λ (H : Kinds). Reads b d (after k f) (After k P) false (only k) H) (lasts_nil m E) (then_reads (word_reads k o) (λ _. p) (empty G))
+pub after_reads : {b : Bool} {d : ℕ} {A : Type 0} {f : Reader A} {P : Lang A} {m : Bool} {G E : Kinds} (k : Kind) → is_plain (only k) ≡ true → IsReaderOf b d f P m G E → IsReaderOf b d (after k f) (After k P) false (only k) E
+after_reads {b} {d} {A} {f} {P} {m} {G} {E} k o p = subst (λ (H : Kinds). IsReaderOf b d (after k f) (After k P) false (only k) H) (lasts_nil m E) (then_reads (word_reads k o) (λ _. p) (empty G))
 
-pub means_reads : {b : Bool} {d : ℕ} {A : Type 0} (k : Kind) (x : A) → is_plain (only k) ≡ true → Reads b d (means k x) (Means k x) false (only k) []
+pub means_reads : {b : Bool} {d : ℕ} {A : Type 0} (k : Kind) (x : A) → is_plain (only k) ≡ true → IsReaderOf b d (means k x) (Means k x) false (only k) []
 means_reads k x o = then_reads (word_reads k o) (λ _. give_reads x) refl
 
-pub may_reads : {b : Bool} {d : ℕ} (k : Kind) → is_plain (only k) ≡ true → Reads b d (may k) (May k) true (only k) (only k)
+pub may_reads : {b : Bool} {d : ℕ} (k : Kind) → is_plain (only k) ≡ true → IsReaderOf b d (may k) (May k) true (only k) (only k)
 may_reads k o = pick_reads (word_reads k o) (give_reads tt) refl
 
-pub flag_reads : {b : Bool} {d : ℕ} (k : Kind) → is_plain (only k) ≡ true → Reads b d (flag k) (Flag k) true (only k) (only k)
+pub flag_reads : {b : Bool} {d : ℕ} (k : Kind) → is_plain (only k) ≡ true → IsReaderOf b d (flag k) (Flag k) true (only k) (only k)
 flag_reads k o = pick_reads (means_reads k true o) (give_reads false) refl
 
-pub optional_reads : {b : Bool} {d : ℕ} {A : Type 0} {f : Reader A} {P : Lang A} {F D : Kinds} → Reads b d f P false F D → Reads b d (optional F f) (Optional P) true F (F ++ D)
+pub optional_reads : {b : Bool} {d : ℕ} {A : Type 0} {f : Reader A} {P : Lang A} {F D : Kinds} → IsReaderOf b d f P false F D → IsReaderOf b d (optional F f) (Optional P) true F (F ++ D)
 optional_reads {b} {d} {A} {f} {P} {F} {D} p =
     let r = pick_reads (made_reads Some p) (give_reads None) refl in
-    subst (λ (G : Kinds). Reads b d (optional F f) (Optional P) true G (F ++ D)) (append-nil F)
-    (subst (λ (G : Kinds). Reads b d (optional F f) (Optional P) true (F ++ []) (F ++ G)) (append-nil D) r)
+    subst (λ (G : Kinds). IsReaderOf b d (optional F f) (Optional P) true G (F ++ D)) (append-nil F)
+    (subst (λ (G : Kinds). IsReaderOf b d (optional F f) (Optional P) true (F ++ []) (F ++ G)) (append-nil D) r)
 
-pub commas_reads : {b : Bool} {d : ℕ} {A : Type 0} {f : Reader A} {P : Lang A} {F D : Kinds} → Reads b d f P false F D → disjoint (only kinds.Comma) D ≡ true → Reads b d (commas f) (Many (After kinds.Comma P)) true (only kinds.Comma) (only kinds.Comma ++ D)
+pub commas_reads : {b : Bool} {d : ℕ} {A : Type 0} {f : Reader A} {P : Lang A} {F D : Kinds} → IsReaderOf b d f P false F D → disjoint (only kinds.Comma) D ≡ true → IsReaderOf b d (commas f) (Many (After kinds.Comma P)) true (only kinds.Comma) (only kinds.Comma ++ D)
 unfolding commas
 commas_reads p h = many_reads (after_reads kinds.Comma refl p) h
 
-pub listed_reads : {b : Bool} {d : ℕ} {A : Type 0} {f : Reader A} {P : Lang A} {F D : Kinds} → Reads b d f P false F D → disjoint (only kinds.Comma) D ≡ true → Reads b d (listed f) (Listed P) false F (D ++ (only kinds.Comma ++ D))
+pub listed_reads : {b : Bool} {d : ℕ} {A : Type 0} {f : Reader A} {P : Lang A} {F D : Kinds} → IsReaderOf b d f P false F D → disjoint (only kinds.Comma) D ≡ true → IsReaderOf b d (listed f) (Listed P) false F (D ++ (only kinds.Comma ++ D))
 listed_reads p h = then_reads p (λ x. made_reads (λ xs. x ∷ xs) (commas_reads p h)) h

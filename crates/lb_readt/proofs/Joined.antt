@@ -21,7 +21,7 @@ abbrev pub Begins : Bool → Kinds → List Token → Type 0
 Begins n ks [] = n ≡ true
 Begins n ks (t ∷ ts) = has ks t.kind ≡ true
 
--- what f took is spelled so; what it answers hangs on no token behind the next one
+-- what f took is spelled so; what it answers hangs on no token after the next one
 pub record GotSo (lvl : ℕ → Below) (d e : ℕ) {A : Type 0} (f : Reader A) (P : Lang A) (ts : List Token) (x : A) (rest : List Token) : Type 0 where
   pub front : List Token
   pub whole : ts ≡ front ++ rest

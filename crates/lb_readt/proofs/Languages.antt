@@ -1,4 +1,4 @@
--- Languages rearranged.
+-- Laws of the words that the grammar is put together by: sequences and choices, rearranged.
 use Rattle.std.proofs.Common.{◌≡◌, List, [], ◌∷◌, ◌++◌, refl, sym, ap, subst, ◌∙◌, append_assoc}
 use Rattle.lb_tok.specs.declared.kind.Kind.{Kind}
 use Rattle.lb_tok.specs.declared.token.Token.{Token}

@@ -1,4 +1,4 @@
--- Repetition and brackets.
+-- A reader of a list, and of what stands in brackets, is exact where the reader of an item is.
 use Rattle.std.proofs.Common.{Bool, true, false, cond, inl, inr, ◌≡◌, ℕ, zero, suc, ◌≤◌, ◌<◌, List, [], ◌∷◌, ◌++◌, length, refl, sym, ap, subst, ◌∙◌, append_assoc, arith}
 use Rattle.std.proofs.lemmas.List.{length-append}
 use Rattle.lb_tok.specs.declared.kind.Kind.{Kind}

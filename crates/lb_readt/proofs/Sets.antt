@@ -1,4 +1,4 @@
--- Sets of kinds.
+-- Sets of token kinds: which of them meet. A choice by the next token rests on sets that don't.
 use Rattle.std.proofs.Common.{Bool, true, false, cond, ◌&&◌, ◌||◌, ◌≡◌, ℕ, [], ◌∷◌, ◌++◌, refl, ap, ◌∙◌, arith}
 use Rattle.std.specs.Prelude.{nat_le, nat_lt}
 use Rattle.std.proofs.lemmas.Bool.Decides.{nat_tests}

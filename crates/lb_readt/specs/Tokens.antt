@@ -21,7 +21,7 @@ text_at = one (only kinds.Text) (λ t. text_in t.content)
 abbrev pub int_at : Reader ℤ
 int_at = one (only kinds.Numeral) (λ t. int_in t.content)
 
--- the digits behind a minus: the negative of a number up to 2 ^ 63
+-- the digits after a minus: the negative of a number up to 2 ^ 63
 abbrev pub negative_at : Reader ℤ
 negative_at = one (only kinds.Numeral) (λ t. negative_in t.content)
 
@@ -41,7 +41,7 @@ word_at = one names word_in
 abbrev pub comparison_at : Reader Comparison
 comparison_at = one (from_to kinds.Equal kinds.AtLeast) (λ t. comparison_of t.kind)
 
--- behind a name: the column of the table that it names, or the column that it names
+-- after a name: the column of the table that it names, or the column that it names
 unfoldable pub column_on : List ℕ → Reader Column
 column_on n = pick (only kinds.Dot) (after kinds.Dot (made (of_table n) name_at)) (give (alone n))
 

@@ -1,4 +1,4 @@
-// Why reading stops.
+// Why a reader stops: no statement goes on so, a bracket too many, or out of memory.
 ghost use Rattle.std.specs.Prelude.{◌≡◌};
 ghost use Rattle.lb_readt.specs.declared.fault.Fault.TheVariants.{Memory};
 
@@ -8,7 +8,7 @@ use std::alloc::{AllocError, AllocFailed};
 /// Why reading stops, with the tokens that are left there.
 #[derive(Clone, Copy)]
 pub enum Fault<'a> {
-    /// Want of memory.
+    /// Out of memory.
     Memory,
     /// No statement goes on with the first of these tokens; none is left where the tokens end too early.
     Bad(&'a [Token]),

@@ -1,8 +1,9 @@
 // Readers of single tokens, and what the next token is.
-ghost use Rattle.std.specs.Prelude.{◌≡◌, ◌++◌, ◌<◌, ◌≤◌, ◌^◌, pos, neg_ℤ};
+ghost use Rattle.std.specs.Prelude.{◌≡◌, ◌++◌, ◌<◌, ◌≤◌, ◌^◌, pos, neg_ℤ, true, false};
+ghost use Rattle.std.specs.Option.{MatchOption};
 ghost use Rattle.lb_tok.specs.Kinds.{only, from_to, names};
 ghost use Rattle.lb_tok.specs.declared.kind.Kind.TheVariants as kinds;
-ghost use Rattle.lb_readt.specs.Readers.{heads, word};
+ghost use Rattle.lb_readt.specs.Readers.{heads, word, got};
 ghost use Rattle.lb_readt.specs.Answering.{Gives};
 ghost use Rattle.lb_readt.specs.Tokens.{name_at, text_at, int_at, negative_at, count_at, day_at, word_at, comparison_at};
 
@@ -11,7 +12,7 @@ use lb_base::{Name, Str, date_of};
 use lb_tok::{Call, Content, Kind, Token};
 use lb_tree::Comparison;
 
-// The least magnitude that a 64-bit integer holds only behind a minus.
+// The least magnitude that a 64-bit integer holds only after a minus.
 const LIMIT: u64 = 9223372036854775808;
 
 /// Whether the next token is of this kind.
@@ -55,7 +56,7 @@ pub fn next_is_either(tokens: &[Token], one: Kind, other: Kind) -> bool
     }
 }
 
-/// Takes a token of this kind: the tokens behind it. `Bad` where the next token is of another kind, or none is left.
+/// Takes a token of this kind: the tokens after it. `Bad` where the next token is of another kind, or none is left.
 pub fn take<'a>(tokens: &'a [Token], kind: Kind) -> Result<&'a [Token], Fault<'a>>
     ensures { Gives (λ r. (tt, r.now)) result (word kind tokens.now) }
 {
@@ -68,6 +69,17 @@ pub fn take<'a>(tokens: &'a [Token], kind: Kind) -> Result<&'a [Token], Fault<'a
                 Err(Fault::Bad(tokens))
             }
         }
+    }
+}
+
+/// Takes a token of this kind if it is next: the tokens after it. `None` where the next token is of another kind, or none is
+/// left.
+pub fn take_if<'a>(tokens: &'a [Token], kind: Kind) -> Option<&'a [Token]>
+    ensures { MatchOption result (heads (only kind) tokens.now ≡ false) (λ rest. (heads (only kind) tokens.now ≡ true) × (word kind tokens.now ≡ got tt rest.now)) }
+{
+    match tokens {
+        [first, rest @ ..] if first.kind.is(kind) => Some(rest),
+        _ => None,
     }
 }
 
@@ -145,7 +157,7 @@ pub fn int<'a>(tokens: &'a [Token]) -> Read<'a, i64>
     }
 }
 
-/// Reads an integer behind a minus that is taken: the negative of a number up to 2^63. `Bad` at any other token.
+/// Reads an integer after a minus that is taken: the negative of a number up to 2^63. `Bad` at any other token.
 pub fn negative<'a>(tokens: &'a [Token]) -> Read<'a, i64>
     ensures { Gives (λ r. (r.0, r.1.now)) result (negative_at tokens.now) }
 {

@@ -1,4 +1,4 @@
-// Look-ups by name.
+// Look-ups by name in the store: the table, its rows, its columns.
 ghost use Rattle.std.specs.Prelude.{◌≡◌, None, IfNone, IfSome};
 ghost use Rattle.std.specs.Option.{option_copied};
 ghost use Rattle.std.specs.List.{list_any};

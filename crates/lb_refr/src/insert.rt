@@ -1,4 +1,4 @@
-// INSERT INTO a table VALUES.
+// Runs INSERT with VALUES: all its rows go last, or none.
 ghost use Rattle.std.specs.Prelude.{◌≡◌, ◌++◌, map, IfOk, OnOk, OnErr};
 ghost use Rattle.lb_model.specs.Catalog.{table_named, rows_of, put_version, put_maybe};
 ghost use Rattle.lb_model.specs.Answer.{literal_value, given_rows as rows_of_source, insert_into};
@@ -90,7 +90,7 @@ pub fn insert(
     }
 }
 
-// Puts the rows behind those of the table.
+// Puts the rows after those of the table.
 fn add_rows(versions: &mut Vec<TableVersion>, name: &Name, rows: RowList) -> Result<(), NoMemory>
     ensures ok { OnOk result (versions.new.items ≡ put_version (record { name = name.now; rows = rows_of name.now versions.old.items ++ rows }) versions.old.items) }
     ensures err { OnErr result (versions.new.items ≡ versions.old.items) }

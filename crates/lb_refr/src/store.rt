@@ -47,7 +47,7 @@ impl Store {
 
     /// Whether the statement of the user is not built yet: it is of another form than the five small ones, or the user is not
     /// SECADMIN, or it goes past a limit, since it would make the 65th table, or `rows`, those that it gives, do not fit its
-    /// table or would leave it with more than 131,072 cells.
+    /// table, or may be inserted and would leave it with more than 131,072 values.
     pub fn is_unbuilt(&self, user: &Name, stmt: &Stmt, rows: &RowList) -> bool
         requires given { rows.now ≡ rows_given stmt.now }
         ensures { IsTrue result ↔ IsUnbuilt self.now.cat self.now.tables user.now stmt.now }
@@ -74,7 +74,7 @@ impl Store {
     }
 
     /// Runs a query, a write or a change of the user; `rows` are those that the statement gives.
-    /// `Err` is want of memory, after which catalogue and rows are as they were.
+    /// `Err` where memory runs out; catalogue and rows are then as they were.
     pub fn run(
         &mut self,
         alloc: Global,

@@ -42,7 +42,7 @@ line_of bytes at = count_by (λ b. b == 10) (take at bytes) + 1
 abbrev pub text_in : List ℕ → ℕ × ℕ → List ℕ
 text_in bytes span = slice_range bytes span.0 span.1
 
--- the statements before the next header, each as the offsets of its first byte and after its last one
+-- the statements before the next header, each as the offset of its first byte and the offset after its last one
 abbrev pub section_statements : List Piece → List (ℕ × ℕ)
 section_statements [] = []
 section_statements (pieces.Header from to ∷ ps) = []

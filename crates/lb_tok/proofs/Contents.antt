@@ -8,7 +8,7 @@ use Rattle.lb_tok.specs.declared.token.Token.{Token}
 use Rattle.lb_tok.specs.Form.{Below}
 use Rattle.lb_tok.specs.QueryPieces.{expr_phrase, expr_pieces, cond_phrase, cond_pieces, query_pieces}
 use Rattle.lb_tok.specs.Grammar.{InExpr, InCond, InQuery, IsFact, IsTerm, IsConcat, IsExpr, IsPrim, IsNeg, IsConj, IsCond}
-use Rattle.lb_tok.proofs.Turning.{Got, Spells}
+use Rattle.lb_tok.proofs.SpelledPieces.{Got, Spells}
 
 -- ---- expressions
 

@@ -164,7 +164,7 @@ no_digits_behind_minus n rest h =
 
 -- ---- pieces
 
--- the tokens of the piece, one against the other, with rest behind them
+-- the tokens of the piece, one against the other, with rest after them
 abbrev pub Joined : Piece → List ℕ → Type 0
 Joined [] rest = ⊥
 Joined (t ∷ []) rest = Writes (token_text t) t × (begins (goes_on t.kind) rest ≡ false)

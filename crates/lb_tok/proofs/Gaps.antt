@@ -245,7 +245,7 @@ done false (b ∷ bs) = go (is_blank b) (b == 45 && begins (λ c. c == 45) bs) r
     go false true e h f g = g
     go false false e h f g = neither _ _ e h
 
--- and no gap begins behind it
+-- and no gap begins after it
 pub gap_done : (bs : List ℕ) → begins_gap (past_gap bs) ≡ false
 unfolding past_gap
 gap_done bs = done false bs

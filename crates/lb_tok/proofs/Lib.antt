@@ -9,10 +9,10 @@ pub mod Sets
 pub mod Signs
 pub mod Spoken
 pub mod Texts
-pub mod TurnedChanges
-pub mod TurnedConditions
-pub mod TurnedExpressions
-pub mod TurnedQueries
-pub mod TurnedWords
-pub mod Turning
+pub mod SpelledChanges
+pub mod SpelledConditions
+pub mod SpelledExpressions
+pub mod SpelledQueries
+pub mod SpelledWords
+pub mod SpelledPieces
 pub mod Written

@@ -1,4 +1,4 @@
--- Runs of bytes, and symbols.
+-- Runs of bytes and symbols: what the scanner takes is the longest token.
 use Rattle.std.proofs.Common.{Bool, true, false, cond, ◌≡◌, ℕ, List, [], ◌∷◌, ◌++◌, Option, Some, None, refl, sym, ap, ◌∙◌, append_assoc}
 use Rattle.std.specs.Option.{option_and_then}
 use Rattle.lb_tok.specs.declared.kind.Kind.{Kind}

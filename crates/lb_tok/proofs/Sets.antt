@@ -1,4 +1,4 @@
--- Sets of one run.
+-- A run of kinds is a set: the test by number is the test by list.
 use Rattle.std.proofs.Common.{Bool, true, false, cond, ◌&&◌, ◌≡◌, ◌==◌, ℕ, refl, arith}
 use Rattle.std.specs.Prelude.{nat_le}
 use Rattle.std.proofs.lemmas.Bool.Decides.{nat_tests}

@@ -1,4 +1,4 @@
--- Statements, spelled by canonical text.
+-- The canonical text of a spoken statement has that statement's tokens.
 use Rattle.std.proofs.Common.{◌≡◌, ℕ, zero, suc, ◌+◌, ◌≤◌, List, [], ◌∷◌, length, Option, None, sym, subst, arith}
 use Rattle.lb_stmt.specs.declared.write.Stmt.{Stmt}
 use Rattle.lb_tok.specs.declared.token.Token.{Token}
@@ -12,12 +12,12 @@ use Rattle.lb_tok.specs.Canonical.{stmt_pieces, tokens_of, canonical}
 use Rattle.lb_tok.specs.Spelled.{AreTokens as AreTokensOf, IsSpoken, Spelled}
 use Rattle.lb_tok.proofs.Texts.{one_lexing}
 use Rattle.lb_tok.proofs.Fitting.{spaced_lexes}
-use Rattle.lb_tok.proofs.Turning.{Got, AreTokens, unmake, which, Spells, made, left, right}
+use Rattle.lb_tok.proofs.SpelledPieces.{Got, AreTokens, unmake, which, Spells, made, left, right}
 use Rattle.lb_tok.proofs.Contents.{Turns}
-use Rattle.lb_tok.proofs.TurnedExpressions.{expr-turn}
-use Rattle.lb_tok.proofs.TurnedConditions.{Room, cond-turn}
-use Rattle.lb_tok.proofs.TurnedQueries.{query-turn, query_or_write-turn}
-use Rattle.lb_tok.proofs.TurnedChanges.{change-turn}
+use Rattle.lb_tok.proofs.SpelledExpressions.{expr-turn}
+use Rattle.lb_tok.proofs.SpelledConditions.{Room, cond-turn}
+use Rattle.lb_tok.proofs.SpelledQueries.{query-turn, query_or_write-turn}
+use Rattle.lb_tok.proofs.SpelledChanges.{change-turn}
 
 -- ---- brackets
 

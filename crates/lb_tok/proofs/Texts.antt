@@ -8,7 +8,7 @@ use Rattle.lb_tok.specs.Scanning.{past_gap, token_from}
 use Rattle.lb_tok.proofs.Gaps.{gap_of, gap_done, past_of, is_same}
 use Rattle.lb_tok.proofs.Scanned.{token_sound, token_only, no_gap_before, written_filled}
 
--- Some tokens were found, and rest is what follows the gap behind them.
+-- Some tokens were found, and rest is what follows the gap after them.
 pub record Tracked (text : List ℕ) (tokens : List Token) (spans : List Span) (rest : List ℕ) : Type 0 where
   pub before : List ℕ
   pub passed : past_gap before ≡ rest

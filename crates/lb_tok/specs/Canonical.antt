@@ -54,6 +54,6 @@ stmt_pieces (stmts.Change c) = change_pieces c
 abbrev pub tokens_of : Stmt → List Token
 tokens_of s = tokens_in (stmt_pieces s)
 
--- its text: a blank between two pieces, but none before `, ) ] }` and none behind `( [ {`
+-- its text: a blank between two pieces, but none before `, ) ] }` and none after `( [ {`
 unfoldable pub canonical : Stmt → List ℕ
 canonical s = spaced (stmt_pieces s)

@@ -25,7 +25,7 @@ use Rattle.lb_stmt.specs.declared.change.Exempted.{Exempted}
 use Rattle.lb_base.specs.declared.rule.Rule.TheVariants as rules
 use Rattle.lb_stmt.specs.declared.change.Exempted.TheVariants as exempted
 use Rattle.lb_stmt.specs.declared.change.Privilege.{Privilege}
-use Rattle.lb_stmt.specs.declared.change.Privilege.TheVariants as rights
+use Rattle.lb_stmt.specs.declared.change.Privilege.TheVariants as privileges
 use Rattle.lb_stmt.specs.declared.change.Grantee.{Grantee}
 use Rattle.lb_stmt.specs.declared.change.Grantee.TheVariants as grantees
 use Rattle.lb_stmt.specs.declared.change.PermissionDef.{PermissionDef}
@@ -184,18 +184,18 @@ rule_pieces exempted.All = mark kinds.All ∷ []
 abbrev pub exemption_pieces : Exempted → List ℕ → List Piece
 exemption_pieces r p = mark kinds.Exemption ∷ mark kinds.On ∷ mark kinds.Rule ∷ (rule_pieces r ++ mark kinds.For ∷ name p ∷ [])
 
-abbrev pub right_kind : Privilege → Kind
-right_kind rights.Select = kinds.Select
-right_kind rights.Insert = kinds.Insert
-right_kind rights.Update = kinds.Update
-right_kind rights.Delete = kinds.Delete
+abbrev pub privilege_kind : Privilege → Kind
+privilege_kind privileges.Select = kinds.Select
+privilege_kind privileges.Insert = kinds.Insert
+privilege_kind privileges.Update = kinds.Update
+privilege_kind privileges.Delete = kinds.Delete
 
-abbrev pub right_pieces : Privilege → List Piece
-right_pieces r = mark (right_kind r) ∷ []
+abbrev pub privilege_pieces : Privilege → List Piece
+privilege_pieces r = mark (privilege_kind r) ∷ []
 
 -- TABLE is not written
-abbrev pub rights_pieces : List Privilege → List ℕ → List Piece
-rights_pieces rs t = listed (map right_pieces rs) ++ mark kinds.On ∷ name t ∷ []
+abbrev pub privileges_pieces : List Privilege → List ℕ → List Piece
+privileges_pieces rs t = listed (map privilege_pieces rs) ++ mark kinds.On ∷ name t ∷ []
 
 -- ---- all changes
 
@@ -229,5 +229,5 @@ change_pieces (changes.GrantRole r u) = mark kinds.Grant ∷ mark kinds.Role ∷
 change_pieces (changes.RevokeRole r u) = mark kinds.Revoke ∷ mark kinds.Role ∷ name r ∷ mark kinds.From ∷ user_pieces u
 change_pieces (changes.GrantSecadm u) = mark kinds.Grant ∷ mark kinds.Secadm ∷ mark kinds.On ∷ mark kinds.Database ∷ mark kinds.To ∷ user_pieces u
 change_pieces (changes.RevokeSecadm u) = mark kinds.Revoke ∷ mark kinds.Secadm ∷ mark kinds.On ∷ mark kinds.Database ∷ mark kinds.From ∷ user_pieces u
-change_pieces (changes.GrantPrivileges rs t g) = mark kinds.Grant ∷ (rights_pieces rs t ++ mark kinds.To ∷ grantee_pieces g)
-change_pieces (changes.RevokePrivileges rs t g) = mark kinds.Revoke ∷ (rights_pieces rs t ++ mark kinds.From ∷ grantee_pieces g)
+change_pieces (changes.GrantPrivileges rs t g) = mark kinds.Grant ∷ (privileges_pieces rs t ++ mark kinds.To ∷ grantee_pieces g)
+change_pieces (changes.RevokePrivileges rs t g) = mark kinds.Revoke ∷ (privileges_pieces rs t ++ mark kinds.From ∷ grantee_pieces g)

@@ -23,7 +23,7 @@ use Rattle.lb_stmt.specs.declared.change.Exempted.{Exempted}
 use Rattle.lb_base.specs.declared.rule.Rule.TheVariants as rules
 use Rattle.lb_stmt.specs.declared.change.Exempted.TheVariants as exempted
 use Rattle.lb_stmt.specs.declared.change.Privilege.{Privilege}
-use Rattle.lb_stmt.specs.declared.change.Privilege.TheVariants as rights
+use Rattle.lb_stmt.specs.declared.change.Privilege.TheVariants as privileges
 use Rattle.lb_stmt.specs.declared.change.Grantee.{Grantee}
 use Rattle.lb_stmt.specs.declared.change.Grantee.TheVariants as grantees
 use Rattle.lb_stmt.specs.declared.change.Change.{Change}
@@ -39,7 +39,7 @@ use Rattle.lb_tok.specs.Words.{name_in}
 use Rattle.lb_tok.specs.Form.{Lang, Nothing, One, Word, Seq, Either, Many, Word, After, Made, Means, May, Optional, Listed, Bracket, Parens}
 use Rattle.lb_tok.specs.Grammar.{IsName, IsText, IsInt, IsCase, IsCond, IsTab, IsQueryOrWrite, level}
 
--- ---- keywords that may be names where they stand, so that the words behind them decide
+-- ---- keywords that may be names where they stand, so that the words after them decide
 
 abbrev pub Named : Kind → Lang (Unit {0})
 Named k = One (only k) (λ t. option_and_then (λ n. Some tt) (name_in t.content))
@@ -93,7 +93,7 @@ any_is true (x ∷ xs) = x || any_is true xs
 any_is false (true ∷ xs) = any_is false xs
 any_is false (false ∷ xs) = true
 
--- a column with the options before and behind SECURED WITH
+-- a column with the options before and after SECURED WITH
 abbrev pub column_def : List ℕ → ColumnType → List Bool → Option (List ℕ) → List Bool → Element
 column_def n t before label behind =
     elements.Column (record { name = n; ty = t; not_null = any_is false (before ++ behind); key = any_is true (before ++ behind); secured = label })
@@ -234,14 +234,14 @@ IsRuleOf = After kinds.On (After kinds.Rule (Seq IsRule (λ r. After kinds.For (
 -- priv = SELECT | INSERT | UPDATE | DELETE
 abbrev pub IsRight : Lang Privilege
 IsRight =
-    Either (Means kinds.Select rights.Select)
-    (Either (Means kinds.Insert rights.Insert)
-    (Either (Means kinds.Update rights.Update)
-    (Means kinds.Delete rights.Delete)))
+    Either (Means kinds.Select privileges.Select)
+    (Either (Means kinds.Insert privileges.Insert)
+    (Either (Means kinds.Update privileges.Update)
+    (Means kinds.Delete privileges.Delete)))
 
 -- priv {, priv} ON [TABLE] name k (u | PUBLIC), where k is TO or FROM
-abbrev pub IsRightsOn : (List Privilege → List ℕ → Grantee → Change) → Lang (Unit {0}) → Lang Change
-IsRightsOn f k = Seq (Listed IsRight) (λ rs. After kinds.On (Seq (MayNamed kinds.Table) (λ _. Seq IsName (λ t. Seq k (λ _. Made (f rs t) IsGrantee)))))
+abbrev pub IsPrivilegesOn : (List Privilege → List ℕ → Grantee → Change) → Lang (Unit {0}) → Lang Change
+IsPrivilegesOn f k = Seq (Listed IsRight) (λ rs. After kinds.On (Seq (MayNamed kinds.Table) (λ _. Seq IsName (λ t. Seq k (λ _. Made (f rs t) IsGrantee)))))
 
 -- GRANT SECURITY LABEL name . name TO u [FOR (ALL | READ | WRITE) ACCESS]
 --     | GRANT EXEMPTION ON RULE rule FOR name TO u
@@ -253,7 +253,7 @@ IsGrant =
     (Either (After kinds.Exemption (Seq IsRuleOf (λ r. After kinds.To (Made (changes.GrantExemption r.0 r.1) IsUser))))
     (Either (After kinds.Role (Seq IsName (λ r. After kinds.To (Made (changes.GrantRole r) IsUser))))
     (Either (After kinds.Secadm (After kinds.On (After kinds.Database (After kinds.To (Made changes.GrantSecadm IsUser)))))
-    (IsRightsOn changes.GrantPrivileges (Named kinds.To)))))
+    (IsPrivilegesOn changes.GrantPrivileges (Named kinds.To)))))
 
 -- REVOKE SECURITY LABEL name . name FROM u | REVOKE EXEMPTION ON RULE rule FOR name FROM u
 --     | REVOKE ROLE name FROM u | REVOKE SECADM ON DATABASE FROM u
@@ -264,7 +264,7 @@ IsRevoke =
     (Either (After kinds.Exemption (Seq IsRuleOf (λ r. After kinds.From (Made (changes.RevokeExemption r.0 r.1) IsUser))))
     (Either (After kinds.Role (Seq IsName (λ r. After kinds.From (Made (changes.RevokeRole r) IsUser))))
     (Either (After kinds.Secadm (After kinds.On (After kinds.Database (After kinds.From (Made changes.RevokeSecadm IsUser)))))
-    (IsRightsOn changes.RevokePrivileges (Word kinds.From)))))
+    (IsPrivilegesOn changes.RevokePrivileges (Word kinds.From)))))
 
 -- ---- all changes
 

@@ -1,4 +1,4 @@
--- The text of a day.
+-- The text of a day, yyyy-mm-dd. Canonical texts and replies print it.
 use Rattle.std.specs.Prelude.{ℕ, zero, suc, ◌+◌, ◌/◌, ◌%◌, Bool, not, ◌&&◌, List, [], ◌∷◌, ◌++◌, if◌then◌else◌, ℤ, pos, negsuc, int_lt}
 use Rattle.jiff_core.specs.Calendar.{days_from_civil}
 

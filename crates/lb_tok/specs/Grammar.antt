@@ -53,7 +53,7 @@ IsText = One (only kinds.Text) (λ t. text_in t.content)
 abbrev pub IsInt : Lang ℤ
 IsInt = One (only kinds.Numeral) (λ t. int_in t.content)
 
--- int behind a minus
+-- int after a minus
 abbrev pub IsNegative : Lang ℤ
 IsNegative = One (only kinds.Numeral) (λ t. negative_in t.content)
 
@@ -62,8 +62,8 @@ abbrev pub IsCount : Lang ℤ
 IsCount = One (only kinds.Numeral) (λ t. count_in t.content)
 
 -- a text that writes a true day
-abbrev pub IsDay : Lang ℤ
-IsDay = One (only kinds.Text) (λ t. day_in t.content)
+abbrev pub IsDayLiteral : Lang ℤ
+IsDayLiteral = One (only kinds.Text) (λ t. day_in t.content)
 
 -- ---- lists of one part are their part
 
@@ -172,7 +172,7 @@ IsArguments calls.VerifyGroup = Parens (Made (λ gs. exprs.Atom (atoms.VerifyGro
 IsArguments calls.SecLabel = Parens (Made (λ p. exprs.Atom (atoms.SecLabel p.0 p.1)) IsTwoTexts)
 IsArguments calls.SecLabelByName = Parens (Made (λ p. exprs.Atom (atoms.SecLabelByName p.0 p.1)) IsTwoTexts)
 IsArguments calls.SecLabelToChar = Parens IsShown
-IsArguments calls.Date = Either (Parens (Made (λ d. exprs.Atom (atoms.Date d)) IsDay)) (Made (λ d. exprs.Atom (atoms.Date d)) IsDay)
+IsArguments calls.Date = Either (Parens (Made (λ d. exprs.Atom (atoms.Date d)) IsDayLiteral)) (Made (λ d. exprs.Atom (atoms.Date d)) IsDayLiteral)
 
 -- the name of a function
 abbrev pub IsFunction : Lang Call

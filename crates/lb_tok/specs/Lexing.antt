@@ -42,7 +42,7 @@ abbrev pub doubled : List ℕ → List ℕ
 doubled [] = []
 doubled (b ∷ bs) = if b == 39 then 39 ∷ 39 ∷ doubled bs else b ∷ doubled bs
 
--- the number that decimal digits write, behind a number written before
+-- the number that decimal digits write, after a number written before
 abbrev pub decimal_on : ℕ → List ℕ → ℕ
 decimal_on n [] = n
 decimal_on n (b ∷ bs) = decimal_on (n * 10 + (b - 48)) bs
@@ -102,7 +102,7 @@ abbrev pub begins_gap : List ℕ → Bool
 begins_gap [] = false
 begins_gap (b ∷ bs) = is_blank b || (b == 45 && begins (λ c. c == 45) bs)
 
--- the token stands at the front of the bytes, and rest behind it
+-- the token stands at the front of the bytes, and rest after it
 abbrev pub StandsBefore : List ℕ → Token → List ℕ → Type 0
 StandsBefore bs t rest = (front : List ℕ) × Writes front t × (begins (goes_on t.kind) rest ≡ false) × (bs ≡ front ++ rest)
 

@@ -33,7 +33,7 @@ use Rattle.lb_tok.specs.Spacing.{Piece, mark, name, dotted, all_of, opening, lit
 
 -- ---- lists, brackets and what may be left out
 
--- each part behind the symbol
+-- each part after the symbol
 abbrev pub behind : Kind → List (List Piece) → List Piece
 behind k [] = []
 behind k (x ∷ xs) = mark k ∷ (x ++ behind k xs)
@@ -53,7 +53,7 @@ parens ps = mark kinds.Open ∷ (ps ++ mark kinds.Close ∷ [])
 abbrev pub call : Kind → List Piece → List Piece
 call k ps = opening k ∷ (ps ++ mark kinds.Close ∷ [])
 
--- the word, and the part behind it, where there is one
+-- the word, and the part after it, where there is one
 abbrev pub clause : Kind → Option (List Piece) → List Piece
 clause k None = []
 clause k (Some ps) = mark k ∷ ps
@@ -93,7 +93,7 @@ abbrev pub int_piece : ℤ → Piece
 int_piece (pos n) = digits n
 int_piece (negsuc n) = negative (suc n)
 
--- SESSION_USER, and the texts behind it
+-- SESSION_USER, and the texts after it
 abbrev pub verified : List (List ℕ) → List Piece
 verified texts = mark kinds.SessionUser ∷ behind kinds.Comma (map text_pieces texts)
 
@@ -140,7 +140,7 @@ abbrev pub sign_kind : Bool → Kind
 sign_kind true = kinds.Minus
 sign_kind false = kinds.Plus
 
--- a part of a sum behind its sign
+-- a part of a sum after its sign
 abbrev pub signed : Bool × Phrase → List Piece
 signed x = mark (sign_kind x.0) ∷ at_least 1 x.1
 

@@ -53,5 +53,5 @@ FaultSays P d found NoMemory = Unit {0}
 FaultSays P d found (Syntax at) = IsRefusedAt P d found at
 
 -- all of the text is tokens, which spell the statement and keep the limit
-abbrev pub IsRead : Lang Stmt → ℕ → Tokens → Stmt → Type 0
-IsRead P d found s = (found.stop ≡ None) × Spells P found.tokens s × (walk found.tokens d ≡ Some d)
+abbrev pub IsSpelledWithin : Lang Stmt → ℕ → Tokens → Stmt → Type 0
+IsSpelledWithin P d found s = (found.stop ≡ None) × Spells P found.tokens s × (walk found.tokens d ≡ Some d)

@@ -27,7 +27,7 @@ split_run p (b ∷ bs) = if p b then (b ∷ (split_run p bs).0, (split_run p bs)
 abbrev pub NoneBegins : (ℕ → Bool) → List ℕ → Type 0
 NoneBegins p all = (b : ℕ) (bs : List ℕ) → all ≡ b ∷ bs → p b ≡ false
 
--- the number that digits write behind another one, at most 2 ^ 63
+-- the number that digits write after another one, at most 2 ^ 63
 abbrev pub value_more : ℕ → ℕ → Option ℕ
 value_more v b = if nat_le (v * 10 + (b - 48)) (2 ^ 63) then Some (v * 10 + (b - 48)) else None
 
@@ -35,7 +35,7 @@ unfoldable pub value_on : Option ℕ → List ℕ → Option ℕ
 value_on v [] = v
 value_on v (b ∷ bs) = value_on (option_and_then (λ n. value_more n b) v) bs
 
--- the text behind an opening quote, and what follows its closing one
+-- the text after an opening quote, and what follows its closing one
 unfoldable pub quoted_from : List ℕ → List ℕ → Option (List ℕ × List ℕ)
 quoted_from front [] = None
 quoted_from front (b ∷ []) = if b == 39 then Some (front, []) else None

@@ -75,7 +75,7 @@ tokens_in ps = flat_map (λ p. p) ps
 
 -- ---- blanks
 
--- `( [ {`, behind which there is no blank
+-- `( [ {`, after which there is no blank
 abbrev pub openings : Kinds
 openings = only kinds.Open ++ only kinds.LeftBracket ++ only kinds.LeftBrace
 
@@ -95,7 +95,7 @@ ends_opening (t ∷ u ∷ ts) = ends_opening (u ∷ ts)
 abbrev pub piece_text : Piece → List ℕ
 piece_text p = flat_map token_text p
 
--- a text so far, and whether no blank follows it: at its beginning and behind `( [ {`
+-- a text so far, and whether no blank follows it: at its beginning and after `( [ {`
 pub record Layout : Type 0 where
   pub text : List ℕ
   pub fresh : Bool
@@ -113,7 +113,7 @@ gap false false = 32 ∷ []
 unfoldable pub lay : Layout → Piece → Layout
 lay l p = record { text = l.text ++ (gap l.fresh (begins_closing p) ++ piece_text p); fresh = ends_opening p }
 
--- the text with the pieces behind it, from left to right
+-- the text with the pieces after it, from left to right
 abbrev pub laid : Layout → List Piece → Layout
 laid l [] = l
 laid l (p ∷ ps) = laid (lay l p) ps

@@ -1,4 +1,5 @@
--- What single tokens say.
+-- What single tokens say: the operator of a comparison, the aggregate or function that a word names, a literal's
+-- value.
 use Rattle.std.specs.Prelude.{ℕ, ◌^◌, ◌&&◌, List, Bool, true, false, Option, Some, None, ℤ, pos, neg_ℤ, nat_lt, nat_le, if◌then◌else◌}
 use Rattle.std.specs.Option.{option_and_then}
 use Rattle.lb_tree.specs.declared.query.Comparison.{Comparison}
@@ -30,7 +31,7 @@ number_in c = None
 abbrev pub int_in : Content → Option ℤ
 int_in c = option_and_then (λ n. if nat_lt n (2 ^ 63) then Some (pos n) else None) (number_in c)
 
--- the same behind a minus
+-- the same after a minus
 abbrev pub negative_in : Content → Option ℤ
 negative_in c = option_and_then (λ n. if nat_le n (2 ^ 63) then Some (neg_ℤ (pos n)) else None) (number_in c)
 

@@ -1,4 +1,5 @@
-// The kinds of tokens.
+// The kinds of tokens: keywords, names, numerals, texts and symbols. The readers and printers speak of kinds, never
+// of spellings.
 ghost use Rattle.std.specs.Prelude.{◌≡◌, find};
 ghost use Rattle.std.specs.Str.{bytes_eq};
 ghost use Rattle.lb_tok.specs.Kinds.{number, spelling, kind_of, has, only, from_to, names};

@@ -1,4 +1,4 @@
-// The tokens of a text.
+// The lexer: the tokens of a text with their spans, or the byte that begins none.
 ghost use Rattle.std.specs.Prelude.{◌≡◌, ◌==◌, ◌&&◌, ◌≤◌, ◌<◌, ◌^◌, ◌+◌, ◌-◌, ◌∷◌, ◌++◌, [], length, IfOk, IfErr, IfSome, MatchOption, MatchResult, Some, None, List, ℕ, true, false, IsUtf8, string_bytes, OnErr, OnOk};
 ghost use Rattle.std.specs.Char.{is_ascii_digit};
 ghost use Rattle.std.specs.List.{list_all};
@@ -6,6 +6,7 @@ ghost use Rattle.std.specs.Str.{IsValidUpTo};
 ghost use Rattle.std.specs.Option.{option_map, option_and_then};
 ghost use Rattle.lb_base.specs.Names.{is_name_byte, name_of};
 ghost use Rattle.lb_tok.specs.Faults.{IsTextFault};
+ghost use Rattle.lb_tok.specs.Limit.{most_statement_bytes};
 ghost use Rattle.lb_tok.specs.Lexing.{begins, is_blank, is_line, is_quoteless, symbol_token, word_token, Lexed};
 ghost use Rattle.lb_tok.specs.Scanning.{NoneBegins, past_gap, past_gap_in, split_run, value_more, value_on, quoted_from, single, double, symbol_from, number_token, text_token, word_from, number_from, token_from};
 ghost use Rattle.lb_tok.specs.declared.lex.ReadFault.TheVariants.{Syntax, NoMemory};
@@ -15,15 +16,15 @@ use lb_base::{Listing, Name, Str};
 use std::alloc::{AllocError, AllocFailed, Global};
 use std::str;
 
-/// The most bytes that a statement may have.
-pub const MOST_BYTES: usize = 4096;
+/// The most bytes that a statement may have: `most_statement_bytes` of the definitions.
+pub const MOST_STATEMENT_BYTES: usize = 4096;
 
 /// Why a text is not read.
 #[derive(Clone, Copy, Debug, PartialEq, Eq)]
 pub enum ReadFault {
     /// The text is no statement; with the offset in bytes at which it goes wrong.
     Syntax(u32),
-    /// Want of memory.
+    /// Out of memory.
     NoMemory,
 }
 
@@ -216,7 +217,7 @@ fn past_quote<'a>(text: &'a str) -> Option<&'a str>
     text.strip_prefix('\'')
 }
 
-// The text behind an opening quote, and what follows its closing one. None where it is not closed.
+// The text after an opening quote, and what follows its closing one. None where it is not closed.
 #[tactic(auto, using(crate::proofs::Gaps::quoted_piece, crate::proofs::Gaps::quoted_doubled, crate::proofs::Gaps::quoted_ends, crate::proofs::Gaps::quoted_none))]
 fn quoted<'a>(alloc: Global, text: &'a str) -> Result<Option<(Str, &'a str)>, AllocError>
     ensures { IfOk result (λ o. option_map (λ r. (r.0, r.1.now)) o ≡ quoted_from [] text.now) }
@@ -410,13 +411,13 @@ fn scan(alloc: Global, text: &str) -> Result<Tokens, AllocError>
 
 /// The tokens of a text, before the first byte that begins no token.
 pub fn tokens(alloc: Global, text: &[u8]) -> Result<Tokens, ReadFault>
-    ensures read { IfOk result (λ found. (length text.now ≤ 4096) × IsUtf8 text.now × Lexed text.now found) }
+    ensures read { IfOk result (λ found. (length text.now ≤ most_statement_bytes) × IsUtf8 text.now × Lexed text.now found) }
     ensures paired { IfOk result (λ found. length found.spans ≡ length found.tokens) }
-    // Too long a text goes wrong at 4096, and one that is not UTF-8 behind its longest front that is.
+    // A text that is too long goes wrong at 4096, and one that is not UTF-8 after its longest front that is.
     ensures fault { IfErr result (IsTextFault text.now) }
 {
-    if text.len() > MOST_BYTES {
-        return Err(ReadFault::Syntax(4096));
+    if text.len() > MOST_STATEMENT_BYTES {
+        return Err(ReadFault::Syntax(MOST_STATEMENT_BYTES as u32));
     }
     match str::from_utf8(text) {
         Ok(text) => Ok(scan(alloc, text)?),

@@ -10,5 +10,5 @@ mod token;
 pub use call::Call;
 pub use kind::Kind;
 pub use laws::{canonical_text_spells_its_statement, no_text_has_two_token_lists};
-pub use lex::{MOST_BYTES, ReadFault, tokens};
+pub use lex::{MOST_STATEMENT_BYTES, ReadFault, tokens};
 pub use token::{Content, Span, Token, Tokens};

@@ -1,4 +1,4 @@
-// Tokens.
+// A token, its span, and the tokens of a whole text.
 use crate::Kind;
 use lb_base::{Listing, Name, Str};
 
@@ -27,7 +27,7 @@ pub struct Token {
 pub struct Span {
     /// The offset of its first byte.
     pub from: u32,
-    /// The offset behind its last byte.
+    /// The offset after its last byte.
     pub to: u32,
 }
 

@@ -24,7 +24,7 @@ pub struct Chief<N> {
 }
 
 impl<N> Chief<N> {
-    /// The chief's own pass. Later calls with the chief want that pass to be in it still.
+    /// The chief's own pass. Later calls with the chief ask that this pass is in it still.
     pub fn pass(&mut self) -> &mut Pass<N>
         ensures* writes_back { sem 𝓛 (lends_pass N.row self.entry result) }
         ensures value { result.now ≡ pass_of self.old }

@@ -30,7 +30,7 @@ pub struct View<N> {
     pub other: Known<N>,
     /// The turn's fixed number.
     pub number: u64,
-    /// Its parts of the right to have a ticket.
+    /// How many of the 65 parts it has; without one it draws no ticket.
     pub parts: u64,
 }
 

@@ -51,7 +51,7 @@ pub trait Sink {
 
 /// What gives the day.
 pub trait Clock {
-    /// The days that it has given so far, where the clock tells them. It may stop to tell them.
+    /// The days that it has given so far, where the clock tells them. It may stop telling them.
     ghost given: { Self → Option (List ℤ) };
 
     /// The day, counted from 1970-01-01, from -719162 (0001-01-01) to 2932896 (9999-12-31). It

@@ -9,14 +9,14 @@ use Rattle.lb_split.specs.declared.piece.Piece.{Piece}
 use Rattle.lb_split.specs.declared.piece.Piece.TheVariants as pieces
 use Rattle.lb_stmt.specs.declared.write.Stmt.{Stmt}
 use Rattle.lb_tok.specs.Canonical.{canonical}
-use Rattle.lb_tok.specs.Syntax.{IsReadable, IsSyntaxAt}
+use Rattle.lb_tok.specs.Syntax.{IsRepeatable, IsSyntaxAt}
 use Rattle.lbac_canonical.specs.declared.line.Line.{Line}
 use Rattle.lbac_canonical.specs.declared.line.Line.TheVariants as lines
 
 -- The text is that of a statement, and the line is the statement's canonical text, which can be read again; or the
 -- text goes wrong at the byte that the line names, which is 4096 where the canonical text can't be read again.
 abbrev pub IsLineOf : List ℕ → Line → Type 0
-IsLineOf text (lines.Canonical told) = (s : Stmt) × IsReadable text s × (told ≡ canonical s)
+IsLineOf text (lines.Canonical told) = (s : Stmt) × IsRepeatable text s × (told ≡ canonical s)
 IsLineOf text (lines.Syntax at) = IsSyntaxAt text at
 
 -- the line as it is printed, without its end

@@ -10,8 +10,8 @@ use std::env;
 use std::io::{self, ErrorKind};
 use std::process::ExitCode;
 
-/// Why the words are unknown: memory was refused, or one of them is no text.
-fn unknown_words(error: &io::Error) -> Status {
+/// Why the arguments are unknown: memory was refused, or one of them isn't UTF-8.
+fn unknown_arguments(error: &io::Error) -> Status {
     match error.kind() {
         ErrorKind::OutOfMemory => Status::NoMemory,
         _ => Status::BadWords,
@@ -19,7 +19,7 @@ fn unknown_words(error: &io::Error) -> Status {
 }
 
 /// Nothing, where the command line has no word but the program's name.
-fn no_words(rt: &HostRuntime) -> Result<(), Status> {
+fn no_arguments(rt: &HostRuntime) -> Result<(), Status> {
     match env::args(rt) {
         Ok(args) => {
             if args.skip(1).next().is_some() {
@@ -27,12 +27,12 @@ fn no_words(rt: &HostRuntime) -> Result<(), Status> {
             }
             Ok(())
         }
-        Err(error) => Err(unknown_words(&error)),
+        Err(error) => Err(unknown_arguments(&error)),
     }
 }
 
 fn main(rt: HostRuntime) -> ExitCode {
-    match no_words(&rt) {
+    match no_arguments(&rt) {
         Ok(()) => {}
         Err(status) => return ExitCode::from(status.number()),
     }

@@ -1,4 +1,4 @@
-// The lines of a script.
+// Prints the line of each statement of a script.
 ghost use Rattle.std.specs.Prelude.{◌≡◌, ◌⊎◌, ◌≤◌, ◌<◌, ◌^◌, Err, IfOk, OnOk, OnErr, length, map, string_bytes};
 ghost use Rattle.lb_wire.specs.Causes.{Rose};
 ghost use Rattle.lb_wire.specs.Inputs.{IsRunnable};

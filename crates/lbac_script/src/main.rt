@@ -8,37 +8,37 @@ use std::env;
 use std::io::{self, ErrorKind};
 use std::process::ExitCode;
 
-/// Why there are no words: memory was refused, or one of them is no text.
-fn no_words(error: &io::Error) -> Status {
+/// Why there are no arguments: memory was refused, or one of them isn't UTF-8.
+fn no_arguments(error: &io::Error) -> Status {
     match error.kind() {
         ErrorKind::OutOfMemory => Status::NoMemory,
         _ => Status::BadWords,
     }
 }
 
-/// The words of the command line behind the program's name. Words that are no text are those of a faulty command line.
-fn words(rt: &HostRuntime) -> Result<Listing<Str>, Status> {
+/// The arguments after the program's name. Arguments that aren't UTF-8 are those of a faulty command line.
+fn arguments(rt: &HostRuntime) -> Result<Listing<Str>, Status> {
     let alloc = rt.alloc();
-    let mut words = Listing::empty(alloc);
+    let mut arguments = Listing::empty(alloc);
     let args = match env::args(rt) {
         Ok(args) => args,
-        Err(error) => return Err(no_words(&error)),
+        Err(error) => return Err(no_arguments(&error)),
     };
     for word in args.skip(1) {
         let word = match Str::of(alloc, word.as_str()) {
             Ok(word) => word,
             Err(_) => return Err(Status::NoMemory),
         };
-        if words.push(word).is_err() {
+        if arguments.push(word).is_err() {
             return Err(Status::NoMemory);
         }
     }
-    Ok(words)
+    Ok(arguments)
 }
 
 fn main(rt: HostRuntime) -> ExitCode {
-    let words = match words(&rt) {
-        Ok(words) => words,
+    let arguments = match arguments(&rt) {
+        Ok(arguments) => arguments,
         Err(status) => return ExitCode::from(status.number()),
     };
     let mut source = StdSource::new(rt.stdin());
@@ -46,7 +46,7 @@ fn main(rt: HostRuntime) -> ExitCode {
     let mut clock = DayClock::new(&rt);
     let status = run_alone(
         rt.alloc(),
-        words.as_slice(),
+        arguments.as_slice(),
         &mut source,
         &mut sink,
         &mut clock,

@@ -1,7 +1,7 @@
 // Blocks of answers, one for each reply and each refusal, against texts that were written by hand.
 use lb_base::{Listing, Name, NoMemory, Row, RowList, Rule, Str, Value};
 use lb_block::{bad_script, block, header};
-use lb_model::{Answer, Flaw, LimitOf, Mark, Refusal, Reply, Right, Verb};
+use lb_model::{Answer, Flaw, LimitOf, Mark, NeededPrivilege, Refusal, Reply, Verb};
 use std::alloc::{AllocError, Global};
 use std::test::Fail;
 
@@ -48,7 +48,7 @@ fn refusal(alloc: Global, number: u8) -> Result<Refusal, NoMemory> {
         2 => Refusal::Unknown(text(alloc, "p")?),
         3 => Refusal::Exists(text(alloc, "T")?),
         4 => Refusal::Types(0),
-        5 => Refusal::Privilege(Right::Select, text(alloc, "T")?),
+        5 => Refusal::Privilege(NeededPrivilege::Select, text(alloc, "T")?),
         6 => Refusal::NotSecadm,
         7 => Refusal::ColumnRead(text(alloc, "C")?, text(alloc, "K")?, Rule::ReadTree),
         8 => Refusal::ColumnWrite(text(alloc, "C")?, text(alloc, "K")?, Rule::WriteUp),

@@ -1,4 +1,4 @@
-// The lines of a journal.
+// The lines of a printed journal, against texts that were written by hand.
 use lb_base::{Listing, Name, Names, NoMemory, Str};
 use lb_block::{entry, journal};
 use lb_model::{Entry, Said};

@@ -2,7 +2,7 @@
 use lb_split::{Piece, ScriptFault, Section, Span, resume, sections, split, text_at};
 use std::alloc::{AllocError, Global};
 
-/// The sections as a text: a line for each, with its kind, user and groups, and behind each `|` a statement.
+/// The sections as a text: a line for each, with its kind, user and groups, and after each `|` a statement.
 /// The number of the line where the form is broken. Scripts here have at most 4096 bytes.
 fn shown(alloc: Global, script: &[u8]) -> Result<String, AllocError> {
     if script.len() > 4096 {

@@ -5,7 +5,7 @@ ghost use Rattle.lb_wire.specs.Told.{GrewBy};
 
 use crate::Clock;
 
-/// A clock in memory, whose day stays. It tells the days that it has given, and stops to at its
+/// A clock in memory, whose day stays. It tells the days that it has given, and stops telling them at its
 /// call 2^64 - 1.
 #[derive(Drop)]
 pub struct MemClock {

@@ -5,7 +5,7 @@ use Rattle.lb_tok.specs.Kinds.{only}
 use Rattle.lb_readt.specs.Readers.{got, after, many, commas}
 use Rattle.lb_readd.specs.Defining.{piece_at, parts_from, parts_on}
 use Rattle.lb_readd.specs.Pieces.{all_parts, piece_of}
-use Rattle.lb_readt.proofs.Turned.{word_on, word_stop}
+use Rattle.lb_readt.proofs.ListLoop.{word_on, word_stop}
 use Rattle.lb_readd.proofs.Folded.{same_value, folds_begin, folds_on, folds_end, folds_out, folds_stop}
 use Rattle.lb_readd.proofs.parts.pieces.Goals as goal
 

@@ -1,7 +1,7 @@
 use Rattle.std.proofs.Common.{◌≡◌, ℕ, List, arith, rules, w32, subst}
 use Rattle.std.proofs.lemmas.Int.{to_z-of_z}
 use mir.Val.{to_z, of_z, SFits}
-use Rattle.lb_tok.specs.Syntax.{Reads}
+use Rattle.lb_tok.specs.Syntax.{IsTextOf}
 use Rattle.lb_front.proofs.Committed.{stopped_unbuilt, stopped_full, no_truth}
 use Rattle.lb_front.proofs.book.Book.prepare.Goals as goal
 
@@ -21,7 +21,7 @@ returns-clause-ready c =
     let e : to_z w32 (of_z w32 c.args.day) ≡ c.args.day = to_z-of_z w32 c.args.day small in
     record {
       again = record {
-        reads = subst (λ (t : List ℕ). Reads t c.in_ok-stmt.field-0.stmt) c.in_ok-stmt.ensures.read.canonical_text c.in_ok-stmt.ensures.read.again;
+        reads = subst (λ (t : List ℕ). IsTextOf t c.in_ok-stmt.field-0.stmt) c.in_ok-stmt.ensures.read.canonical_text c.in_ok-stmt.ensures.read.again;
         again = c.in_ok-stmt.ensures.read.reads.again;
       };
       built = λ u. no_truth c.is_unbuilt.result (c.is_unbuilt.ensures.1 u) c.if-is_unbuilt.false;

@@ -1,8 +1,0 @@
-use Rattle.std.proofs.Common.{◌≡◌, take, map}
-use Rattle.lb_tok.specs.Spacing.{laid}
-use Rattle.lb_tok.specs.QueryPieces.{listed}
-use Rattle.lb_tok.specs.ChangePieces.{right_pieces}
-use Rattle.lb_print.proofs.grant.rights.Given as goal
-
-abbrev pub invariant-loop-place : goal.invariant-loop-place
-invariant-loop-place l = l.page ≡ laid l.initial.page (listed (map right_pieces (take l.place l.list)))

@@ -1,5 +1,0 @@
-use Rattle.lb_read.proofs.Trees.{one_tree}
-use Rattle.lb_read.proofs.laws.no_tokens_have_two_trees.Goals as goal
-
-pub returns : goal.returns
-returns c = one_tree

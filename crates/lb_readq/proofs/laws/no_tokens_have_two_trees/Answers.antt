@@ -1,6 +1,0 @@
-use Rattle.lb_readq.proofs.Whole.{unique}
-use Rattle.lb_readq.proofs.Writes.{whole}
-use Rattle.lb_readq.proofs.laws.no_tokens_have_two_trees.Goals as goal
-
-pub returns : goal.returns
-returns c = unique whole
