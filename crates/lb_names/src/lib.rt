@@ -1,0 +1,2 @@
+//! Names and types: what a statement names, what its names mean, and the kinds of its expressions.
+#![tactic(auto)]

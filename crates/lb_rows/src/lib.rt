@@ -1,0 +1,2 @@
+//! The rows of tables.
+#![tactic(auto)]
