@@ -1,1 +1,5 @@
+pub mod Sights
+pub mod Marks
+pub mod SortNames
+pub mod StatementMarks
 pub mod Mentions

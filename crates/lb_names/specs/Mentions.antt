@@ -16,6 +16,7 @@ use Rattle.lb_stmt.specs.declared.write.InsertSource.{InsertSource}
 use Rattle.lb_stmt.specs.declared.write.InsertSource.TheVariants as sources
 use Rattle.lb_stmt.specs.declared.write.Stmt.{Stmt}
 use Rattle.lb_stmt.specs.declared.write.Stmt.TheVariants as stmts
+use Rattle.lb_names.specs.Marks.{Mark, enter, item, column, star, call, Marks}
 
 pub data Mention : Type 0 where
   -- a table of FROM
@@ -134,6 +135,25 @@ in_stmt (stmts.Insert i) = table i.table ∷ in_source i.source
 in_stmt (stmts.Update u) = table u.target.table ∷ (flat_map in_assignment u.assignments ++ in_where u.filter)
 in_stmt (stmts.Delete d) = table d.target.table ∷ in_where d.filter
 in_stmt (stmts.Change c) = []
+
+-- ---- the mentions among the names that are marked
+
+abbrev pub mention_in : Atom → Option Mention
+mention_in (atoms.SecLabel p text) = Some (policy p)
+mention_in (atoms.SecLabelByName p l) = Some (label p l)
+mention_in (atoms.SecLabelToChar p c) = Some (policy p)
+mention_in _ = None
+
+-- a FROM item or a target mentions its table, a call its policy or its label
+abbrev pub mention : Mark → Option Mention
+mention (enter items) = None
+mention (item before around tab) = Some (table tab.table)
+mention (column seen c) = None
+mention (star items x) = None
+mention (call a) = mention_in a
+
+abbrev pub mentions : Marks → Mentions
+mentions marks = filter_map mention marks
 
 -- ---- what was named
 

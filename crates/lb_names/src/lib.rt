@@ -1,2 +1,6 @@
 //! Names and types: what a statement names, what its names mean, and the kinds of its expressions.
 #![tactic(auto)]
+
+mod place;
+
+pub use place::{Group, Seen, Spot};
