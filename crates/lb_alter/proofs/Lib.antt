@@ -1,0 +1,17 @@
+pub mod AsksTeller
+pub mod Rules
+pub mod SoundAlters
+pub mod SoundColumns
+pub mod SoundCreates
+pub mod SoundDrops
+pub mod SoundGrants
+pub mod SoundKinds
+pub mod SoundLabels
+pub mod SoundMasks
+pub mod SoundParts
+pub mod SoundStored
+pub mod SoundTables
+pub mod SoundUsers
+pub mod Staying
+pub mod Steady
+pub mod Untouched

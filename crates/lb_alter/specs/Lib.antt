@@ -1,0 +1,12 @@
+pub mod Change
+pub mod ChangeControl
+pub mod ChangeGrant
+pub mod ChangeLabel
+pub mod ChangeTable
+pub mod Deps
+pub mod Fits
+pub mod Laws
+pub mod Refusing
+pub mod Sound
+pub mod Stored
+pub mod Worked

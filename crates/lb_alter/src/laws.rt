@@ -1,0 +1,37 @@
+// Laws over the definitions. Each is the contract of a function that does nothing.
+ghost use Rattle.lb_alter.specs.Laws.{DepsStay, FirstIsSound, IsSteady, StaysSound, UntouchedStays, plain_rules};
+ghost use Rattle.lb_alter.specs.Stored.{Checks};
+ghost use Rattle.lb_alter.specs.Worked.{AllAreRefused, AllLeave, DropsTouchUsers, ReadsThrough};
+
+/// What some statements answer in a small catalogue.
+pub fn worked_changes()
+    ensures refused { (K : Checks) → AllAreRefused K }
+    ensures touched { (K : Checks) → DropsTouchUsers K }
+    ensures leave { (K : Checks) → AllLeave K }
+    ensures through { (K : Checks) → ReadsThrough K }
+{}
+
+/// A key that a change doesn't touch has the same record and the same rows afterwards.
+pub fn untouched_stays()
+    ensures { (K : Checks) → UntouchedStays K }
+{}
+
+/// The catalogue with which every journal begins is sound.
+pub fn first_is_sound()
+    ensures { (K : Checks) → FirstIsSound K }
+{}
+
+/// What a statement depends on is the same where the records that it depends on are.
+pub fn dependencies_stay()
+    ensures { DepsStay }
+{}
+
+/// What is asked of the rules of names and types can be met.
+pub fn some_rules_are_steady()
+    ensures { IsSteady plain_rules }
+{}
+
+/// A change of a sound catalogue leaves a sound one.
+pub fn changes_stay_sound()
+    ensures { (K : Checks) → StaysSound K }
+{}

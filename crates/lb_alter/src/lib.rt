@@ -1,0 +1,8 @@
+//! What the statements that change the catalogue answer and leave, as definitions, and laws over them.
+#![tactic(auto)]
+
+mod laws;
+
+pub use laws::{
+    changes_stay_sound, dependencies_stay, first_is_sound, some_rules_are_steady, untouched_stays, worked_changes,
+};
