@@ -1,0 +1,14 @@
+pub mod Setting
+pub mod Labels
+pub mod Environment
+pub mod Meant
+pub mod Sure
+pub mod Aggregates
+pub mod Expressions
+pub mod Conditions
+pub mod Joined
+pub mod Queries
+pub mod Meaning
+pub mod Visible
+pub mod Ordered
+pub mod Output
