@@ -12,3 +12,7 @@ pub mod Meaning
 pub mod Visible
 pub mod Ordered
 pub mod Output
+pub mod Named
+pub mod Uses
+pub mod Refused
+pub mod Answer
