@@ -1,0 +1,4 @@
+//! What queries mean: evaluation, visible rows, masks, the refusals of a query and its answer, as definitions and laws.
+#![tactic(auto)]
+
+mod laws;
