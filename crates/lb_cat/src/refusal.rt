@@ -98,4 +98,6 @@ pub enum Refusal {
     BadSource(Str, Str),
     /// What is wrong with the column.
     BadTable(Str, Flaw),
+    /// The statement can be read, and its form is not built yet.
+    NotYet,
 }

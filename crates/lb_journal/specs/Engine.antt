@@ -7,14 +7,14 @@ use Rattle.lb_cat.specs.declared.cred.Cred.{Cred}
 use Rattle.lb_cat.specs.Catalog.{Cat}
 use Rattle.lb_alter.specs.Fits.{CredFits, TablesFit}
 use Rattle.lb_alter.specs.Deps.{deps}
-use Rattle.lb_mean.specs.Answer.{Answered, answer}
+use Rattle.lb_journal.specs.Rules.{Answered, answer}
 
 -- what a plan of an engine answers to a session, over tables, on a day
 abbrev pub Meaning : Type 0 → Type 0
 Meaning P = P → Cred → Tables → ℤ → Answered
 
 -- what the engine asks of session and tables to run a plan
-abbrev pub Condition : Type 0 → Type 0
+abbrev pub Condition : Type 0 → Type 1
 Condition P = P → Cred → Tables → Type 0
 
 -- The plan is right for the statement in the catalogue: wherever session and tables fit it on what the statement depends on, and on every

@@ -60,7 +60,7 @@ module _ (built : Cat → Stmt → Bool) (J : List Entry) (limit : ℕ) where
   -- The journal has as many entries as it may have, so the session was not opened; no day was asked for.
   pub record IsLeft (s : Section) (days : List ℤ) (answers : List Answer) : Type 0 where
     pub full : length J ≡ limit
-    pub days : days ≡ []
+    pub none : days ≡ []
     pub shut : AreShut limit s.texts answers
 
   -- what the section is told

@@ -1,0 +1,4 @@
+pub mod One
+pub mod Roots
+pub mod Stamps
+pub mod There
