@@ -13,7 +13,7 @@ use Rattle.lb_cat.specs.Catalog.{Cat, table_named, policy_named, component_named
 use Rattle.lb_cat.specs.Credentials.{cred}
 use Rattle.lb_cat.specs.Keys.{has_key}
 use Rattle.lb_alter.specs.Refusing.{Changed}
-use Rattle.lb_alter.specs.Laws.{SameRecord, SameRows}
+use Rattle.lb_alter.specs.Frame.{SameRecord, SameRows}
 use Rattle.lb_alter.proofs.Untouched.{or_left, turned, put_other, untouched_stays}
 use Rattle.lb_journal.specs.Rules.{Answered, stored_rules, answer}
 use Rattle.lb_journal.specs.State.{State, first, put_maybe, rows_touched, answered, outcome, step, is_there, stamp_after, left_by, after}

@@ -8,7 +8,7 @@ use Rattle.lb_tok.specs.Canonical.{canonical}
 use Rattle.lb_tok.specs.Spelled.{IsSpoken}
 use Rattle.lb_cat.specs.declared.entry.Entry.{Entry}
 use Rattle.lb_cat.specs.declared.reply.Reply.{Reply}
-use Rattle.lb_alter.specs.Laws.{SameRecord, SameRows}
+use Rattle.lb_alter.specs.Frame.{SameRecord, SameRows}
 use Rattle.lb_journal.specs.State.{State, is_there}
 use Rattle.lb_journal.specs.Replay.{Runs, Replay, Rep}
 

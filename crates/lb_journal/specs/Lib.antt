@@ -7,3 +7,4 @@ pub mod Sections
 pub mod State
 pub mod Told
 pub mod Rules
+pub mod Lasting

@@ -10,7 +10,7 @@ use Rattle.lb_cat.specs.Catalog.{Cat}
 use Rattle.lb_alter.specs.Stored.{Checks}
 use Rattle.lb_alter.specs.Change.{change}
 use Rattle.lb_alter.specs.Refusing.{Changed}
-use Rattle.lb_alter.specs.Laws.{plain_rules}
+use Rattle.lb_alter.specs.Steady.{plain_rules}
 
 pub record Answered : Type 0 where
   pub reply : Reply

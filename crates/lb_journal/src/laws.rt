@@ -8,7 +8,11 @@ ghost use Rattle.lb_journal.specs.Journal.{IsMade};
 ghost use Rattle.lb_journal.specs.State.{State};
 ghost use Rattle.lb_journal.specs.Replay.{Replay, Rep};
 ghost use Rattle.lb_journal.specs.Roots.{root};
+ghost use Rattle.lb_journal.specs.Engine.{RightGives};
+ghost use Rattle.lb_journal.specs.Lasting.{AnswerStays, RightLasts};
 ghost use Rattle.lb_journal.specs.Laws.{HasOneReplay, HasOneReply, SameStampSameRecord, StampsTell};
+
+use crate::engine::Engine;
 
 /// A well-made journal leaves a state.
 pub fn a_journal_leaves_a_state()
@@ -36,4 +40,11 @@ pub fn root_stays()
 pub fn stamps_tell()
     ensures there { StampsTell }
     ensures same { SameStampSameRecord }
+{}
+
+/// What an engine's plan that is right for a statement answers, where session and tables fit; and such a plan stays right while
+/// no stamp of what the statement depends on moves.
+pub fn right_plans_last<E: Engine>()
+    ensures gives { RightGives E.means E.takes }
+    ensures lasts { AnswerStays → RightLasts E.means E.takes }
 {}

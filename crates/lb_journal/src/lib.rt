@@ -2,9 +2,11 @@
 //! engine promises.
 #![tactic(auto)]
 
+mod engine;
 mod laws;
 
+pub use engine::Engine;
 pub use laws::{
-    a_journal_has_one_replay, a_journal_leaves_a_state, a_statement_has_a_reply, root_stays,
-    stamps_tell,
+    a_journal_has_one_replay, a_journal_leaves_a_state, a_statement_has_a_reply, right_plans_last,
+    root_stays, stamps_tell,
 };
