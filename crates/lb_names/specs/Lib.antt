@@ -3,3 +3,14 @@ pub mod Marks
 pub mod SortNames
 pub mod StatementMarks
 pub mod Mentions
+pub mod Kinds
+pub mod Scopes
+pub mod Passes
+pub mod Typed
+pub mod Places
+pub mod Carriers
+pub mod Parts
+pub mod Expressions
+pub mod Conditions
+pub mod SelectLists
+pub mod Typing

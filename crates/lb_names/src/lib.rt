@@ -2,5 +2,7 @@
 #![tactic(auto)]
 
 mod place;
+mod refused;
 
 pub use place::{Group, Seen, Spot};
+pub use refused::Refused;
