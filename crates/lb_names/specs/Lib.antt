@@ -14,3 +14,7 @@ pub mod Expressions
 pub mod Conditions
 pub mod SelectLists
 pub mod Typing
+pub mod Same
+pub mod Qualify
+pub mod Qualified
+pub mod Used
