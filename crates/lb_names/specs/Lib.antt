@@ -18,3 +18,5 @@ pub mod Same
 pub mod Qualify
 pub mod Qualified
 pub mod Used
+pub mod OrderTyping
+pub mod Statements
