@@ -20,3 +20,5 @@ pub mod Qualified
 pub mod Used
 pub mod OrderTyping
 pub mod Statements
+pub mod Small
+pub mod Examples

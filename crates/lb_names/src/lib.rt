@@ -1,6 +1,7 @@
 //! Names and types: what a statement names, what its names mean, and the kinds of its expressions.
 #![tactic(auto)]
 
+pub mod laws;
 mod place;
 mod refused;
 
