@@ -2,7 +2,7 @@
 use Rattle.std.specs.Prelude.{ℕ, pos, Bool, true, false, ◌&&◌, if◌then◌else◌, List, [], ◌∷◌, map, find, Option, Some, None, option_map}
 use Rattle.std.specs.List.{list_any}
 use Rattle.std.specs.Str.{bytes_eq}
-use Rattle.lb_tree.specs.declared.query.Aggregate.{Aggregate}
+use Rattle.lb_tree.specs.declared.query.Aggregate.TheVariants as aggregates
 use Rattle.lb_tree.specs.declared.query.Comparison.TheVariants as comparisons
 use Rattle.lb_tree.specs.declared.query.Atom.TheVariants as atoms
 use Rattle.lb_tree.specs.declared.query.Tab.{Tab}
@@ -113,6 +113,9 @@ plus e f = exprs.Sum (roll-Signed (record { minus = false; part = e }) ∷ roll-
 
 abbrev pub equals : Expr → Expr → Cond
 equals e f = conds.Compare comparisons.Equal e f
+
+abbrev pub sum_of : Expr → Expr
+sum_of e = exprs.Aggregate aggregates.Sum e
 
 -- CASE WHEN when THEN 1 END
 abbrev pub one_where : Cond → Expr
