@@ -1,2 +1,5 @@
 pub mod Heads
+pub mod Mentioned
+pub mod Mentioning
+pub mod Sighted
 pub mod Computed

@@ -22,3 +22,5 @@ pub mod OrderTyping
 pub mod Statements
 pub mod Small
 pub mod Examples
+pub mod Agreeing
+pub mod Laws
