@@ -2,4 +2,5 @@ pub mod Heads
 pub mod Mentioned
 pub mod Mentioning
 pub mod Sighted
+pub mod NamesFrame
 pub mod Computed

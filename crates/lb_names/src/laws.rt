@@ -2,7 +2,8 @@
 ghost use Rattle.std.specs.Prelude.{◌≡◌, Some, None, [], ◌∷◌, true};
 ghost use Rattle.lb_names.specs.declared.refused.Refused.TheVariants.{BadLabel, Exists, Types, Unknown};
 ghost use Rattle.lb_names.specs.Examples as e;
-ghost use Rattle.lb_names.specs.Laws.{MentionsAreMarked};
+ghost use Rattle.lb_names.specs.Laws.{MentionsAreMarked, NamesHaveAFrame};
+ghost use Rattle.lb_names.specs.Scopes.{Catalogue};
 ghost use Rattle.lb_names.specs.Small.{a, b, k, small, table, w, x};
 ghost use Rattle.lb_names.specs.StatementMarks.{marks_of};
 ghost use Rattle.lb_names.specs.Statements.{mask_types_refused, names_refused, permission_names_refused, permission_qualified, permission_types_refused, types_refused};
@@ -11,6 +12,11 @@ ghost use Rattle.lb_names.specs.Used.{used_items};
 /// What a statement mentions of the catalogue is what its names mention, in text order.
 pub fn mentions_are_marked()
     ensures { MentionsAreMarked }
+{}
+
+/// The first refusal for names depends on the catalogue by what is mentioned alone.
+pub fn names_have_a_frame()
+    ensures { (C D : Catalogue) → NamesHaveAFrame C D }
 {}
 
 /// Names and types of statements, permissions and masks over a small catalogue, a condition that is qualified, and the columns

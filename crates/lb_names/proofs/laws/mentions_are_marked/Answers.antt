@@ -1,5 +1,4 @@
 use Rattle.lb_names.proofs.Mentioning.{mentions_are_marked}
-use Rattle.lb_names.proofs.Sighted.{sighted_cond}
 use Rattle.lb_names.proofs.laws.mentions_are_marked.Goals as goal
 
 pub returns : goal.returns
