@@ -6,6 +6,7 @@ use Rattle.lb_tree.specs.declared.query.Cond.TheViews.{roll-Chain}
 use Rattle.lb_tree.specs.declared.query.Item.TheVariants as items
 use Rattle.lb_tree.specs.Folds.{item_of, chain_of}
 use Rattle.lb_alter.specs.Worked.{asks_teller, reads_teller}
+use Rattle.std.specs.Prelude.{filter}
 
 -- a query of one item and one chain, by what these name
 abbrev joined : Mentions → Mentions → Mentions

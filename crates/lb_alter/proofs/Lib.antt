@@ -1,4 +1,5 @@
 pub mod AsksTeller
+pub mod MadeComponents
 pub mod Rules
 pub mod SoundAlters
 pub mod SoundColumns

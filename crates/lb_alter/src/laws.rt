@@ -1,5 +1,7 @@
 // Laws over the definitions. Each is the contract of a function that does nothing.
-ghost use Rattle.lb_alter.specs.Laws.{DepsStay, FirstIsSound, IsSteady, StaysSound, UntouchedStays, plain_rules};
+ghost use Rattle.lb_alter.specs.Frame.{DepsStay, UntouchedStays};
+ghost use Rattle.lb_alter.specs.Laws.{FirstIsSound, StaysSound};
+ghost use Rattle.lb_alter.specs.Steady.{IsSteady, plain_rules};
 ghost use Rattle.lb_alter.specs.Stored.{Checks};
 ghost use Rattle.lb_alter.specs.Worked.{AllAreRefused, AllLeave, DropsTouchUsers, ReadsThrough};
 

@@ -1,2 +1,3 @@
+pub mod KeyValues
 pub mod Lists
 pub mod Tables
