@@ -1,4 +1,6 @@
 pub mod AsksTeller
+pub mod Fitting
+pub mod FittingChanges
 pub mod MadeComponents
 pub mod Rules
 pub mod SoundAlters
@@ -16,3 +18,4 @@ pub mod SoundUsers
 pub mod Staying
 pub mod Steady
 pub mod Untouched
+pub mod StayingFit

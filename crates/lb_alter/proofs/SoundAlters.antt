@@ -110,7 +110,7 @@ module _ (P : Table → Type 0) (t : Table) (f : (row column : Bool) → P (refi
   control_case controls.Row active row column = f active column
   control_case controls.Column active row column = f row active
 
-acts_case : (P : Table → Type 0) (t : Table) → ((row column : Bool) → P (refitted t row column t.public t.permissions t.masks)) → (first : Activation) (second : Option Activation) → P (with_acts first second t)
+pub acts_case : (P : Table → Type 0) (t : Table) → ((row column : Bool) → P (refitted t row column t.public t.permissions t.masks)) → (first : Activation) (second : Option Activation) → P (with_acts first second t)
 acts_case P t f first None = control_case P t f first.of first.activate t.row_control t.column_control
 acts_case P t f first (Some second) = control_case (λ (x : Table). P (with_act second x)) t (control_case P t f second.of second.activate) first.of first.activate t.row_control t.column_control
 

@@ -81,7 +81,7 @@ module _ (n : List ℕ) (ty : PlainType) where
         | false ↦ λ e i. both _ _ (among_more c.name cs (not_so _ (and_left _ _ d)) (turned c.name n e)) (different_more cs (and_right (not (is_among (map (λ x. x.name) cs) c.name)) _ d) i)
       ] refl h
 
-  length_more : (cs : List ColumnRec) → length (cs ++ added ∷ []) ≡ suc (length cs)
+  pub length_more : (cs : List ColumnRec) → length (cs ++ added ∷ []) ≡ suc (length cs)
   length_more [] = refl
   length_more (c ∷ cs) = ap (λ (k : ℕ). suc k) (length_more cs)
 
@@ -214,7 +214,7 @@ module _ (o : Option (List ℕ)) (n : List ℕ) where
   same_name : (c : ColumnRec) → (changed c).name ≡ c.name
   same_name c = kept_by (is_column n) (secure o) (λ (x : ColumnRec). x.name) (λ x. refl) c
 
-  same_type : (c : ColumnRec) → (changed c).ty ≡ c.ty
+  pub same_type : (c : ColumnRec) → (changed c).ty ≡ c.ty
   same_type c = kept_by (is_column n) (secure o) (λ (x : ColumnRec). x.ty) (λ x. refl) c
 
   same_names_of : (cs : List ColumnRec) → map (λ c. c.name) (map changed cs) ≡ map (λ c. c.name) cs
@@ -243,7 +243,7 @@ module _ (o : Option (List ℕ)) (n : List ℕ) where
   same_label_at (c ∷ cs) zero = ap is_label_type (same_type c)
   same_label_at (c ∷ cs) (suc at) = same_label_at cs at
 
-  same_null : (c : ColumnRec) → (changed c).not_null ≡ c.not_null
+  pub same_null : (c : ColumnRec) → (changed c).not_null ≡ c.not_null
   same_null c = kept_by (is_column n) (secure o) (λ (x : ColumnRec). x.not_null) (λ x. refl) c
 
   null_place : (cs : List ColumnRec) (at : ℕ) → option_map not_null_in (slice_get cs at) ≡ Some true → option_map not_null_in (slice_get (map changed cs) at) ≡ Some true

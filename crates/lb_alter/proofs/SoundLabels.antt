@@ -214,7 +214,7 @@ module _ (K : Checks) (steady : IsSteady K) (C : Cat) (T : Tables) (s : IsSound 
         (all_follow (TableIsSound K C) (TableIsSound K Relabelled) (λ t h. table_relabelled t (named_more (mentioned_in t)) (belonging_follows C Relabelled t (here_more t.policy) h.belonging) h) C.tables q.tables)
         (all_follow (UserIsSound C) (HeldLabelsAreThere Relabelled) (λ u h. all_follow (HoldsLabels C) (HoldsLabels Relabelled) (λ x i. record { read = given_more x.policy x.read i.read; write = given_more x.policy x.write i.write }) u.held h.held) C.users q.users)
 
-by_own_policy : (C : Cat) (n : List ℕ) (p : Policy) → policy_named C n ≡ Some p → policy_named C p.name ≡ Some p
+pub by_own_policy : (C : Cat) (n : List ℕ) (p : Policy) → policy_named C n ≡ Some p → policy_named C p.name ≡ Some p
 by_own_policy C n p e = subst (λ (m : List ℕ). policy_named C m ≡ Some p) (sym (named_there (λ (x : Policy). x.name) n C.policies p e)) e
 
 module _ (K : Checks) (steady : IsSteady K) (C : Cat) (T : Tables) (s : IsSound K C) where

@@ -1,6 +1,6 @@
 // Laws over the definitions. Each is the contract of a function that does nothing.
 ghost use Rattle.lb_alter.specs.Frame.{DepsStay, UntouchedStays};
-ghost use Rattle.lb_alter.specs.Laws.{FirstIsSound, StaysSound};
+ghost use Rattle.lb_alter.specs.Laws.{CredentialsFit, FirstIsSound, FirstTablesFit, StaysSound, TablesStayFit};
 ghost use Rattle.lb_alter.specs.Steady.{IsSteady, plain_rules};
 ghost use Rattle.lb_alter.specs.Stored.{Checks};
 ghost use Rattle.lb_alter.specs.Worked.{AllAreRefused, AllLeave, DropsTouchUsers, ReadsThrough};
@@ -36,4 +36,19 @@ pub fn some_rules_are_steady()
 /// A change of a sound catalogue leaves a sound one.
 pub fn changes_stay_sound()
     ensures { (K : Checks) → StaysSound K }
+{}
+
+/// In a sound catalogue the credentials of every user fit on every list of keys.
+pub fn credentials_fit()
+    ensures { (K : Checks) → CredentialsFit K }
+{}
+
+/// The tables with which every journal begins fit the first catalogue.
+pub fn first_tables_fit()
+    ensures { FirstTablesFit }
+{}
+
+/// Where the rows of all tables fit a sound catalogue, they fit it after each change.
+pub fn changes_keep_fits()
+    ensures { (K : Checks) → TablesStayFit K }
 {}
