@@ -1,4 +1,4 @@
-pub mod AsksTeller
+pub mod WorkedMentions
 pub mod Fitting
 pub mod FittingChanges
 pub mod MadeComponents

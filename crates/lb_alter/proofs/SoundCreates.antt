@@ -198,7 +198,7 @@ module _ (es : List Element) (policy : Option (List ℕ)) where
   not_null_first [] at h e = absurd (omega (arith, h))
   not_null_first (d ∷ ds) at h e =
       elim (is_key es d) as (λ b. is_key es d ≡ b → at ≡ cond (not b) (1 + position_or_len (is_key es) ds) 0 → option_map not_null_in (slice_get (made d ∷ map made ds) at) ≡ Some true) [
-        | true ↦ λ k i. subst (λ (j : ℕ). option_map not_null_in (slice_get (made d ∷ map made ds) j) ≡ Some true) (sym i) (ap Some (or_so d.not_null (is_key es d) k))
+        | true ↦ λ k i. subst (λ (j : ℕ). option_map not_null_in (slice_get (made d ∷ map made ds) j) ≡ Some true) (sym i) (ap Some (or_so (d.not_null && not (is_label_kind d.ty)) (is_key es d) k))
         | false ↦ λ _ i. not_null_next d ds (not_null_first ds) at h (i ∙ one_plus _)
       ] refl e
 

@@ -141,9 +141,9 @@ abbrev pub column_type : Option (List ℕ) → ColumnType → Ty
 column_type policy (column_types.Plain ty) = plain_type ty
 column_type policy column_types.Label = types.Label (unwrap_or policy [])
 
--- a key is NOT NULL
+-- a key is NOT NULL, and a label column isn't marked so
 abbrev pub new_column : List Element → Option (List ℕ) → ColumnDef → ColumnRec
-new_column es policy d = record { name = d.name; ty = column_type policy d.ty; not_null = d.not_null || is_key es d; secured = d.secured }
+new_column es policy d = record { name = d.name; ty = column_type policy d.ty; not_null = (d.not_null && not (is_label_kind d.ty)) || is_key es d; secured = d.secured }
 
 abbrev pub new_table : List ℕ → List ℕ → List Element → Option (List ℕ) → Table
 new_table user n es policy = record {

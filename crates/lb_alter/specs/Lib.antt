@@ -16,3 +16,4 @@ pub mod Steady
 pub mod Stored
 pub mod Valid
 pub mod Worked
+pub mod WorkedControls

@@ -3,6 +3,9 @@ ghost use Rattle.lb_alter.specs.Frame.{DepsStay, UntouchedStays};
 ghost use Rattle.lb_alter.specs.Laws.{CredentialsFit, FirstIsSound, FirstTablesFit, StaysSound, TablesStayFit};
 ghost use Rattle.lb_alter.specs.Steady.{IsSteady, plain_rules};
 ghost use Rattle.lb_alter.specs.Stored.{Checks};
+ghost use Rattle.lb_alter.specs.WorkedControls.{
+    AreInUse, CalledIsInUse, MasksAreRefused, OtherKindIsUnknown, PermissionsAreRefused, SourcesStandBetween, Switches,
+};
 ghost use Rattle.lb_alter.specs.Worked.{AllAreRefused, AllLeave, DropsTouchUsers, ReadsThrough};
 
 /// What some statements answer in a small catalogue.
@@ -11,6 +14,17 @@ pub fn worked_changes()
     ensures touched { (K : Checks) → DropsTouchUsers K }
     ensures leave { (K : Checks) → AllLeave K }
     ensures through { (K : Checks) → ReadsThrough K }
+{}
+
+/// What statements on permissions and masks answer in a catalogue of two tables, and what is in use.
+pub fn worked_controls()
+    ensures permissions { (K : Checks) → PermissionsAreRefused K }
+    ensures between { SourcesStandBetween }
+    ensures masks { (K : Checks) → MasksAreRefused K }
+    ensures kinds { (K : Checks) → OtherKindIsUnknown K }
+    ensures switches { (K : Checks) → Switches K }
+    ensures used { (K : Checks) → AreInUse K }
+    ensures called { (K : Checks) → CalledIsInUse K }
 {}
 
 /// A key that a change doesn't touch has the same record and the same rows afterwards.

@@ -16,7 +16,7 @@ use Rattle.std.specs.List.{flat_map}
 use Rattle.lb_base.specs.declared.key.Key.{Key}
 use Rattle.lb_base.specs.declared.key.Key.TheVariants as keys
 use Rattle.lb_cat.specs.declared.reply.Reply.{Reply}
-use Rattle.lb_alter.proofs.AsksTeller.{asks}
+use Rattle.lb_alter.proofs.WorkedMentions.{asks}
 use Rattle.lb_alter.proofs.laws.worked_changes.Goals as goal
 
 pub returns-clause-refused : goal.returns-clause-refused
