@@ -1,4 +1,7 @@
-pub mod AsksTeller
+pub mod WorkedMentions
+pub mod Fitting
+pub mod FittingChanges
+pub mod MadeComponents
 pub mod Rules
 pub mod SoundAlters
 pub mod SoundColumns
@@ -15,3 +18,4 @@ pub mod SoundUsers
 pub mod Staying
 pub mod Steady
 pub mod Untouched
+pub mod StayingFit

@@ -15,16 +15,19 @@ use Rattle.lb_cat.specs.declared.catalog.MaskRec.{MaskRec}
 use Rattle.lb_rows.specs.Tables.{Tables}
 use Rattle.lb_cat.specs.Catalog.{Cat, Table, table_named, is_permission, is_mask, is_among}
 use Rattle.lb_cat.specs.Privileges.{with_privileges}
-use Rattle.lb_alter.specs.Stored.{Checks}
-use Rattle.lb_alter.specs.Refusing.{secadm, alters}
 use Rattle.lb_alter.specs.ChangeControl.{with_control, with_act, with_acts, activate, is_enabled, has_permission, has_mask, switch_permission, switch_mask, drop_permission, drop_mask}
 use Rattle.lb_alter.specs.ChangeGrant.{grant_to, revoke_from, grant_privileges, revoke_privileges, with_user_privileges}
-use Rattle.lb_alter.specs.Sound.{AreDifferent, HasTable, IsPlace, has_mask_twice, IsValid, IsValidMask, IsSound}
-use Rattle.lb_alter.specs.Laws.{IsSteady}
-use Rattle.lb_alter.proofs.SoundUsers.{LeavesSound, test_sound, grants_sound, revokes_sound, all_filter, and_left, and_right, not_so}
+use Rattle.lb_alter.specs.Columns.{IsPlace, has_mask_twice}
+use Rattle.lb_alter.specs.Named.{AreDifferent, HasTable}
+use Rattle.lb_alter.specs.Refusing.{secadm, alters}
+use Rattle.lb_alter.specs.Sound.{IsSound}
+use Rattle.lb_alter.specs.Steady.{IsSteady}
+use Rattle.lb_alter.specs.Stored.{Checks}
+use Rattle.lb_alter.specs.Valid.{IsValid, IsValidMask}
 use Rattle.lb_alter.proofs.SoundGrants.{among_filter, different_filter, found_then, owner_then, table_there, with_user_rights_sound}
 use Rattle.lb_alter.proofs.SoundParts.{table_names, all_map}
 use Rattle.lb_alter.proofs.SoundTables.{Always, all_always, itself, same_names, names_front, names_behind, refitted, refits_old, refits_sound, retyped}
+use Rattle.lb_alter.proofs.SoundUsers.{LeavesSound, test_sound, grants_sound, revokes_sound, all_filter, and_left, and_right, not_so}
 use Rattle.lb_alter.proofs.Untouched.{or_left, or_right, turned, named_there}
 
 -- ---- a table that was found otherwise than by its name
@@ -107,7 +110,7 @@ module _ (P : Table → Type 0) (t : Table) (f : (row column : Bool) → P (refi
   control_case controls.Row active row column = f active column
   control_case controls.Column active row column = f row active
 
-acts_case : (P : Table → Type 0) (t : Table) → ((row column : Bool) → P (refitted t row column t.public t.permissions t.masks)) → (first : Activation) (second : Option Activation) → P (with_acts first second t)
+pub acts_case : (P : Table → Type 0) (t : Table) → ((row column : Bool) → P (refitted t row column t.public t.permissions t.masks)) → (first : Activation) (second : Option Activation) → P (with_acts first second t)
 acts_case P t f first None = control_case P t f first.of first.activate t.row_control t.column_control
 acts_case P t f first (Some second) = control_case (λ (x : Table). P (with_act second x)) t (control_case P t f second.of second.activate) first.of first.activate t.row_control t.column_control
 

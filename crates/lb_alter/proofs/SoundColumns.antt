@@ -1,8 +1,9 @@
 -- ALTER TABLE leaves a sound catalogue sound.
 use Rattle.std.proofs.Common.{◌≡◌, refl, sym, ap, subst, ◌∙◌, ℕ, zero, suc, ◌+◌, ◌<◌, ◌≤◌, Bool, true, false, cond, not, ◌&&◌, ◌||◌, List, [], ◌∷◌, ◌++◌, map, length, Option, Some, None, is_some, is_none, arith}
-use Rattle.std.specs.Prelude.{find, fold, take, drop, slice_get, nat_le, nat_lt, ◌*◌}
+use Rattle.std.specs.Prelude.{find, fold, take, drop, slice_get, nat_le, nat_lt, ◌*◌, negsuc, option_map, pos}
 use Rattle.std.specs.List.{AllByRecursion, AllZip, list_any}
 use Rattle.std.specs.Str.{bytes_eq}
+use Rattle.std.proofs.lemmas.Bool.{leb-true}
 use Rattle.std.proofs.lemmas.Slice.Eq.{bytes_eq-Decides}
 use Rattle.lb_base.specs.declared.key.Key.TheVariants as keys
 use Rattle.lb_base.specs.declared.key.Ty.{Ty}
@@ -17,23 +18,42 @@ use Rattle.lb_cat.specs.declared.refusal.Flaw.TheVariants as flaws
 use Rattle.lb_cat.specs.declared.refusal.LimitOf.TheVariants as limits
 use Rattle.lb_rows.specs.Tables.{Tables, put_version, rows_of}
 use Rattle.lb_cat.specs.Catalog.{Cat, Table, table_named, policy_named, is_column, column_named, is_among, put_table}
-use Rattle.lb_alter.specs.Stored.{Checks}
+use Rattle.lb_alter.specs.ChangeTable.{is_label_type, plain_type, plain_column, width_refusal, with_null, add_column, exists_already, add_policy, has_label, policy_of, secured_refusal, secure, change_column, secure_column, unsecure_column, is_label_column}
+use Rattle.lb_alter.specs.Columns.{IsPlace, HasKeyColumn, IsUnsecuredLabel, is_label_at, IsNoLabelAt, HasFewColumns, IsWithinWidth, not_null_in}
+use Rattle.lb_alter.specs.Labelled.{IsLabelHere, IsOfPolicy, ColumnBelongs}
+use Rattle.lb_alter.specs.Named.{AreDifferent, are_different, IfGiven, HasPolicy}
 use Rattle.lb_alter.specs.Refusing.{when, alters}
-use Rattle.lb_alter.specs.ChangeTable.{is_label_type, plain_type, plain_column, width_refusal, with_null, add_column, exists_already, add_policy, has_label, policy_of, secured_refusal, secure, change_column, secure_column, unsecure_column}
-use Rattle.lb_alter.specs.ChangeControl.{is_label_rec}
-use Rattle.lb_alter.specs.Sound.{AreDifferent, are_different, IfGiven, HasPolicy, IsPlace, HasKeyColumn, is_label_column, IsUnsecuredLabel, is_label_at, IsNoLabelAt, IsLabelHere, IsOfPolicy, ColumnBelongs, IsValid, TypesAt, IsValidMask, IsSound, called}
-use Rattle.lb_alter.specs.Laws.{IsSameColumn, IsWider, IsSteady}
-use Rattle.lb_alter.proofs.SoundUsers.{LeavesSound, test_sound, done_sound, all_follow, all_append, and_left, and_right, not_so, both}
+use Rattle.lb_alter.specs.Sound.{IsSound}
+use Rattle.lb_alter.specs.Steady.{IsSameColumn, IsWider, IsSteady}
+use Rattle.lb_alter.specs.Stored.{Checks}
+use Rattle.lb_alter.specs.Valid.{IsValid, TypesAt, IsValidMask, called}
+use Rattle.lb_alter.proofs.SoundAlters.{by_own_name, kept_map, kept_by}
 use Rattle.lb_alter.proofs.SoundGrants.{found_then, owner_then, is_there}
+use Rattle.lb_alter.proofs.SoundKinds.{not_full}
 use Rattle.lb_alter.proofs.SoundParts.{TableIsSound, table_names, all_map}
 use Rattle.lb_alter.proofs.SoundTables.{Always, same_names, refitted, refitted_wider, retyped, put_wider_sound}
-use Rattle.lb_alter.proofs.SoundAlters.{by_own_name, kept_map, kept_by}
+use Rattle.lb_alter.proofs.SoundUsers.{LeavesSound, test_sound, done_sound, all_follow, all_append, and_left, and_right, not_so, both}
 use Rattle.lb_alter.proofs.Untouched.{or_left, or_right, turned}
 
 pub plain_is : (ty : PlainType) → is_label_type (plain_type ty) ≡ false
 plain_is plains.Int = refl
 plain_is (plains.Text w) = refl
 plain_is plains.Date = refl
+
+-- a width that was tested is within its limits
+pub width_fits : (ty : PlainType) → width_refusal ty ≡ None → IsWithinWidth (plain_type ty)
+width_fits plains.Int h = tt
+width_fits plains.Date h = tt
+width_fits (plains.Text (negsuc w)) h = absurd cc
+width_fits (plains.Text (pos w)) h =
+    elim (nat_le 1 w) as (λ b. nat_le 1 w ≡ b → when (not (b && nat_le w 254)) (refusals.Limit limits.Width 254) ≡ None → (1 ≤ w) × (w ≤ 254)) [
+      | false ↦ λ _ i. absurd cc
+      | true ↦ λ low i.
+          elim (nat_le w 254) as (λ b. nat_le w 254 ≡ b → when (not b) (refusals.Limit limits.Width 254) ≡ None → (1 ≤ w) × (w ≤ 254)) [
+            | false ↦ λ _ j. absurd cc
+            | true ↦ λ high j. (leb-true 1 w low, leb-true w 254 high)
+          ] refl i
+    ] refl h
 
 -- ---- a column more
 
@@ -61,16 +81,27 @@ module _ (n : List ℕ) (ty : PlainType) where
         | false ↦ λ e i. both _ _ (among_more c.name cs (not_so _ (and_left _ _ d)) (turned c.name n e)) (different_more cs (and_right (not (is_among (map (λ x. x.name) cs) c.name)) _ d) i)
       ] refl h
 
-  length_more : (cs : List ColumnRec) → length (cs ++ added ∷ []) ≡ suc (length cs)
+  pub length_more : (cs : List ColumnRec) → length (cs ++ added ∷ []) ≡ suc (length cs)
   length_more [] = refl
   length_more (c ∷ cs) = ap (λ (k : ℕ). suc k) (length_more cs)
 
   place_more : (cs : List ColumnRec) (at : ℕ) → at < length cs → at < length (cs ++ added ∷ [])
   place_more cs at h = let l : length (cs ++ added ∷ []) ≡ suc (length cs) = length_more cs in omega (arith, h, l)
 
+  null_more : (cs : List ColumnRec) (at : ℕ) → at < length cs → option_map not_null_in (slice_get cs at) ≡ Some true → option_map not_null_in (slice_get (cs ++ added ∷ []) at) ≡ Some true
+  null_more [] at h e = absurd (omega (arith, h))
+  null_more (c ∷ cs) zero h e = e
+  null_more (c ∷ cs) (suc at) h e = let i : at < length cs = omega (arith, h) in null_more cs at i e
+
+  few_more : (t : Table) → nat_le 64 (length t.columns) ≡ false → IsWithinWidth (plain_type ty) → HasFewColumns t → HasFewColumns (record t { columns = t.columns ++ added ∷ [] })
+  few_more t room wide h =
+      let l : length (t.columns ++ added ∷ []) ≡ suc (length t.columns) = length_more t.columns in
+      let r : length t.columns < 64 = not_full 64 (length t.columns) room in
+      record { some = omega (arith, l); few = omega (arith, l, r); widths = all_append (λ (c : ColumnRec). IsWithinWidth c.ty) t.columns (added ∷ []) h.widths (wide, tt) }
+
   key_more : (t : Table) (key : Option ℕ) → HasKeyColumn t key → HasKeyColumn (record t { columns = t.columns ++ added ∷ [] }) key
   key_more t None h = tt
-  key_more t (Some at) h = place_more t.columns at h
+  key_more t (Some at) h = record { place = place_more t.columns at h.place; not_null = null_more t.columns at h.place h.not_null }
 
   plus_none : (k : ℕ) → k + 0 ≡ k
   plus_none k = omega arith
@@ -91,7 +122,7 @@ module _ (n : List ℕ) (ty : PlainType) where
 
   types_more : (K : Checks) (D : Cat) (t : Table) (m : MaskRec) (cs : List ColumnRec) (at : ℕ) → TypesAt K D t m (slice_get cs at) → TypesAt K D (record t { columns = t.columns ++ added ∷ [] }) m (slice_get (cs ++ added ∷ []) at)
   types_more K D t m [] at h = absurd h
-  types_more K D t m (c ∷ cs) zero h = h
+  types_more K D t m (c ∷ cs) zero h = (h.0, h.1)
   types_more K D t m (c ∷ cs) (suc at) h = types_more K D t m cs at h
 
   plain_of : (o : Option (List ℕ)) (y : PlainType) → IsOfPolicy o (plain_type y)
@@ -105,8 +136,8 @@ module _ (n : List ℕ) (ty : PlainType) where
   wider_more : (t : Table) → IsWider t (record t { columns = t.columns ++ added ∷ [] })
   wider_more t = record { name = refl; more = added ∷ []; same = zipped_more t.columns; rest = rest_more t.columns; plain = ap (λ (b : Bool). b || false) (plain_is ty) }
 
-  more_sound : (K : Checks) (D : Cat) (t : Table) → is_some (find (is_column n) t.columns) ≡ false → TableIsSound K D t → TableIsSound K D (record t { columns = t.columns ++ added ∷ [] })
-  more_sound K D t new h =
+  more_sound : (K : Checks) (D : Cat) (t : Table) → nat_le 64 (length t.columns) ≡ false → IsWithinWidth (plain_type ty) → is_some (find (is_column n) t.columns) ≡ false → TableIsSound K D t → TableIsSound K D (record t { columns = t.columns ++ added ∷ [] })
+  more_sound K D t room wide new h =
       let u : Table = record t { columns = t.columns ++ added ∷ [] } in
       record {
         policy = h.policy;
@@ -117,6 +148,7 @@ module _ (n : List ℕ) (ty : PlainType) where
           key = key_more t t.key h.columns.key;
           masked = all_follow (λ (m : MaskRec). IsPlace t m.column) (λ (m : MaskRec). IsPlace u m.column) (λ m i. place_more t.columns m.column i) t.masks h.columns.masked;
         };
+        few = few_more t room wide h.few;
         label_columns = record {
           one = subst (λ (k : ℕ). k ≤ 1) (sym (count_more 0 t.columns)) h.label_columns.one;
           key = no_label_more t t.key h.label_columns.key;
@@ -152,12 +184,17 @@ module _ (policy : List ℕ) where
       absurd cc
 
 module _ (K : Checks) (D : Cat) (t : Table) (policy : List ℕ) (none : t.policy ≡ None) (there : HasPolicy D policy) where
+  with_policy_key : (key : Option ℕ) → HasKeyColumn t key → HasKeyColumn (record t { policy = Some policy }) key
+  with_policy_key None h = tt
+  with_policy_key (Some at) h = record { place = h.place; not_null = h.not_null }
+
   with_policy_sound : TableIsSound K D t → TableIsSound K D (record t { policy = Some policy })
   with_policy_sound h = record {
     policy = there;
     permissions = h.permissions;
     masks = h.masks;
-    columns = record { names = h.columns.names; key = h.columns.key; masked = h.columns.masked };
+    columns = record { names = h.columns.names; key = with_policy_key t.key h.columns.key; masked = h.columns.masked };
+    few = record { some = h.few.some; few = h.few.few; widths = h.few.widths };
     label_columns = record { one = h.label_columns.one; key = h.label_columns.key; secured = h.label_columns.secured; masks = h.label_columns.masks };
     belonging = all_follow (ColumnBelongs D t) (ColumnBelongs D (record t { policy = Some policy }))
         (λ c i. record { label = of_policy policy t.policy none c.ty i.label; secured = none_secured policy D t.policy none c.secured i.secured }) t.columns h.belonging;
@@ -177,7 +214,7 @@ module _ (o : Option (List ℕ)) (n : List ℕ) where
   same_name : (c : ColumnRec) → (changed c).name ≡ c.name
   same_name c = kept_by (is_column n) (secure o) (λ (x : ColumnRec). x.name) (λ x. refl) c
 
-  same_type : (c : ColumnRec) → (changed c).ty ≡ c.ty
+  pub same_type : (c : ColumnRec) → (changed c).ty ≡ c.ty
   same_type c = kept_by (is_column n) (secure o) (λ (x : ColumnRec). x.ty) (λ x. refl) c
 
   same_names_of : (cs : List ColumnRec) → map (λ c. c.name) (map changed cs) ≡ map (λ c. c.name) cs
@@ -191,7 +228,7 @@ module _ (o : Option (List ℕ)) (n : List ℕ) where
   zipped [] = tt
   zipped (c ∷ cs) = ((same_name c, same_type c), zipped cs)
 
-  plain : (cs : List ColumnRec) → list_any is_label_rec (drop (length cs) (map changed cs)) ≡ false
+  plain : (cs : List ColumnRec) → list_any is_label_column (drop (length cs) (map changed cs)) ≡ false
   plain [] = refl
   plain (c ∷ cs) = plain cs
 
@@ -206,9 +243,28 @@ module _ (o : Option (List ℕ)) (n : List ℕ) where
   same_label_at (c ∷ cs) zero = ap is_label_type (same_type c)
   same_label_at (c ∷ cs) (suc at) = same_label_at cs at
 
-  key_place : (cs : List ColumnRec) (t : Table) (key : Option ℕ) → t.columns ≡ cs → HasKeyColumn t key → HasKeyColumn (record t { columns = map changed cs }) key
-  key_place cs t None e h = tt
-  key_place cs t (Some at) e h = subst (λ (k : ℕ). at < k) (sym (same_length cs)) (subst (λ (xs : List ColumnRec). at < length xs) e h)
+  pub same_null : (c : ColumnRec) → (changed c).not_null ≡ c.not_null
+  same_null c = kept_by (is_column n) (secure o) (λ (x : ColumnRec). x.not_null) (λ x. refl) c
+
+  null_place : (cs : List ColumnRec) (at : ℕ) → option_map not_null_in (slice_get cs at) ≡ Some true → option_map not_null_in (slice_get (map changed cs) at) ≡ Some true
+  null_place [] at h = absurd cc
+  null_place (c ∷ cs) zero h = ap Some (same_null c) ∙ h
+  null_place (c ∷ cs) (suc at) h = null_place cs at h
+
+  key_place : (t : Table) (key : Option ℕ) → HasKeyColumn t key → HasKeyColumn (record t { columns = map changed t.columns }) key
+  key_place t None h = tt
+  key_place t (Some at) h = record { place = subst (λ (k : ℕ). at < k) (sym (same_length t.columns)) h.place; not_null = null_place t.columns at h.not_null }
+
+  same_widths : (cs : List ColumnRec) → AllByRecursion (λ (c : ColumnRec). IsWithinWidth c.ty) cs → AllByRecursion (λ (c : ColumnRec). IsWithinWidth c.ty) (map changed cs)
+  same_widths [] h = tt
+  same_widths (c ∷ cs) h = (subst IsWithinWidth (sym (same_type c)) h.0, same_widths cs h.1)
+
+  few_place : (t : Table) → HasFewColumns t → HasFewColumns (record t { columns = map changed t.columns })
+  few_place t h = record {
+    some = subst (λ (k : ℕ). 1 ≤ k) (sym (same_length t.columns)) h.some;
+    few = subst (λ (k : ℕ). k ≤ 64) (sym (same_length t.columns)) h.few;
+    widths = same_widths t.columns h.widths;
+  }
 
   no_label_at : (t : Table) (key : Option ℕ) → IsNoLabelAt t key → IsNoLabelAt (record t { columns = map changed t.columns }) key
   no_label_at t None h = tt
@@ -216,7 +272,7 @@ module _ (o : Option (List ℕ)) (n : List ℕ) where
 
   same_types_at : (K : Checks) (D : Cat) (t : Table) (m : MaskRec) (cs : List ColumnRec) (at : ℕ) → TypesAt K D t m (slice_get cs at) → TypesAt K D (record t { columns = map changed t.columns }) m (slice_get (map changed cs) at)
   same_types_at K D t m [] at h = absurd h
-  same_types_at K D t m (c ∷ cs) zero h = subst (λ (ty : Ty). K.mask_types D (called t m.correlation) ty m.value ≡ None) (sym (same_type c)) h
+  same_types_at K D t m (c ∷ cs) zero h = (subst (λ (ty : Ty). K.mask_types D (called t m.correlation) ty m.value ≡ None) (sym (same_type c)) h.0, ap is_label_type (same_type c) ∙ h.1)
   same_types_at K D t m (c ∷ cs) (suc at) h = same_types_at K D t m cs at h
 
   -- what is asked of the columns that are changed
@@ -246,9 +302,10 @@ module _ (o : Option (List ℕ)) (n : List ℕ) where
           masks = h.masks;
           columns = record {
             names = subst AreDifferent (sym (same_names_of t.columns)) h.columns.names;
-            key = key_place t.columns t t.key refl h.columns.key;
+            key = key_place t t.key h.columns.key;
             masked = all_follow (λ (m : MaskRec). IsPlace t m.column) (λ (m : MaskRec). IsPlace u m.column) (λ m i. subst (λ (k : ℕ). m.column < k) (sym (same_length t.columns)) i) t.masks h.columns.masked;
           };
+          few = few_place t h.few;
           label_columns = record {
             one = subst (λ (k : ℕ). k ≤ 1) (sym (same_count 0 t.columns)) h.label_columns.one;
             key = no_label_at t t.key h.label_columns.key;
@@ -334,9 +391,9 @@ module _ (K : Checks) (steady : IsSteady K) (C : Cat) (T : Tables) (s : IsSound 
 
   pub add_column_sound : (user n column : List ℕ) (ty : PlainType) → LeavesSound K (add_column C T user n column ty)
   add_column_sound user n column ty =
-      owner_then K C user n _ (λ t e. test_sound K (when (is_some (column_named t column)) (refusals.Exists column)) _ (λ new. test_sound K (when (nat_le 64 (length t.columns)) (refusals.Limit limits.Columns 64)) _ (λ _. test_sound K (width_refusal ty) _
-      (λ _. test_sound K (when (nat_lt 131072 (length (rows_of n T) * (length t.columns + 1))) (refusals.Limit limits.Cells 131072)) _
+      owner_then K C user n _ (λ t e. test_sound K (when (is_some (column_named t column)) (refusals.Exists column)) _ (λ new. test_sound K (when (nat_le 64 (length t.columns)) (refusals.Limit limits.Columns 64)) _ (λ room. test_sound K (width_refusal ty) _
+      (λ wide. test_sound K (when (nat_lt 131072 (length (rows_of n T) * (length t.columns + 1))) (refusals.Limit limits.Cells 131072)) _
       (λ _.
       let u : Table = record t { columns = t.columns ++ plain_column column ty ∷ [] } in
       done_sound K (put_table u C) (put_version (record { name = t.name; rows = map with_null (rows_of n T) }) T) (keys.Table t.name ∷ keys.Rows t.name ∷ [])
-      (put_wider_sound K steady C T s t u (by_own_name C n t e) refl (wider_more column ty t) (same_names Always (table_names t) (table_names t) refl) (more_sound column ty K (put_table u C) t (so_false _ _ new))))))))
+      (put_wider_sound K steady C T s t u (by_own_name C n t e) refl (wider_more column ty t) (same_names Always (table_names t) (table_names t) refl) (more_sound column ty K (put_table u C) t (so_false _ _ room) (width_fits ty wide) (so_false _ _ new))))))))

@@ -1,5 +1,5 @@
 -- Tables and policies that are dropped leave a sound catalogue sound.
-use Rattle.std.proofs.Common.{◌≡◌, refl, sym, ap, subst, ◌∙◌, ℕ, Bool, true, false, cond, not, ◌||◌, List, [], ◌∷◌, ◌++◌, map, Option, Some, None}
+use Rattle.std.proofs.Common.{◌≡◌, refl, sym, ap, subst, ◌∙◌, ℕ, Bool, true, false, cond, not, ◌||◌, List, [], ◌∷◌, ◌++◌, map, Option, Some, None, arith, length, suc, ◌≤◌}
 use Rattle.std.specs.Prelude.{find, filter, option_map}
 use Rattle.std.specs.List.{AllByRecursion, flat_map, list_any}
 use Rattle.std.specs.Str.{bytes_eq}
@@ -12,20 +12,25 @@ use Rattle.lb_cat.specs.Catalog.{Cat, Table, Policy, User, table_named, policy_n
 use Rattle.lb_cat.specs.Holdings.{is_same_name, is_holding_of, has_holding_of, without_holding}
 use Rattle.lb_cat.specs.Privileges.{is_grant_on, has_grant_on, without_grant}
 use Rattle.lb_names.specs.Mentions.{Mentions, table, policy, label, is_table_mention, is_policy_mention}
-use Rattle.lb_alter.specs.Stored.{Checks, Stored, stored_in, stored_name, mentions_of, mentioned_in, names_table, user_of_table, calls_policy}
-use Rattle.lb_alter.specs.Deps.{in_table, policy_of_table}
-use Rattle.lb_alter.specs.Refusing.{secadm}
-use Rattle.lb_alter.specs.ChangeTable.{has_label, policy_of, in_use, user_key, drop_table_of}
+use Rattle.lb_alter.specs.ChangeControl.{has_labels, is_bad_source}
 use Rattle.lb_alter.specs.ChangeLabel.{has_policy, table_name, first_label, drop_policy_of}
-use Rattle.lb_alter.specs.Sound.{AreDifferent, IfGiven, HasTable, HasPolicy, HasComponent, IsPolicyLabel, HoldsLabels, HoldsSomething, GrantsSomething, IsSound}
-use Rattle.lb_alter.specs.Laws.{IsSteady}
-use Rattle.lb_alter.proofs.SoundUsers.{UserIsSound, LeavesSound, test_sound, done_sound, all_filter, all_follow, all_found, all_append, not_so}
+use Rattle.lb_alter.specs.ChangeTable.{has_label, policy_of, in_use, user_key, drop_table_of}
+use Rattle.lb_alter.specs.Deps.{in_table, policy_of_table}
+use Rattle.lb_alter.specs.Labelled.{IsPolicyLabel, HoldsLabels}
+use Rattle.lb_alter.specs.Named.{AreDifferent, IfGiven, HasTable, HasPolicy, HasComponent, HoldsSomething, GrantsSomething, HasFoldedNames}
+use Rattle.lb_alter.specs.Refusing.{secadm}
+use Rattle.lb_alter.specs.Sound.{IsSound}
+use Rattle.lb_alter.specs.Steady.{IsSteady}
+use Rattle.lb_alter.specs.Stored.{Checks, Stored, stored_in, stored_name, mentions_of, mentioned_in, names_table, user_of_table, calls_policy}
 use Rattle.lb_alter.proofs.SoundGrants.{different_filter, found_then, owner_then}
-use Rattle.lb_alter.proofs.SoundParts.{Stands, InPermissions, InMasks, stored_apart, stored_together, TableIsSound, PolicyIsSound, Parts, apart, together, table_names, Reads, reads_kept, stored_moves, all_map}
-use Rattle.lb_alter.proofs.SoundTables.{Always, all_always, Names, names_front, among_behind, different_behind, belonging_follows, same_without, there_without}
 use Rattle.lb_alter.proofs.SoundKinds.{none_found, not_in_use, all_there, policy_there, components_there}
+use Rattle.lb_alter.proofs.SoundParts.{Stands, InPermissions, InMasks, stored_apart, stored_together, TableIsSound, PolicyIsSound, Parts, apart, together, table_names, Reads, reads_kept, stored_moves, all_map, Sources, folded_of, source_stands}
+use Rattle.lb_alter.proofs.SoundTables.{Always, all_always, Names, names_front, among_behind, different_behind, belonging_follows, same_without, there_without, StaysPlain, found_without, neither}
+use Rattle.lb_alter.proofs.SoundUsers.{UserIsSound, LeavesSound, test_sound, done_sound, all_filter, all_follow, all_found, all_append, not_so}
 use Rattle.lb_alter.proofs.Steady.{all_front, all_behind}
 use Rattle.lb_alter.proofs.Untouched.{or_left, or_right, turned, without_other}
+use Rattle.lb_base.specs.Names.{IsFolded}
+use Rattle.std.proofs.lemmas.Slice.Eq.{bytes_eq-Decides}
 
 -- ---- lists
 
@@ -52,6 +57,17 @@ names_filter test (x ∷ xs) =
           record { among = λ n _ h. r.among n tt (among_behind (table_names x) _ n h); different = λ h. r.different (different_behind (table_names x) _ h) }
     ]
 
+fewer_left : {A : Type 0} (test : A → Bool) (xs : List A) (n : ℕ) → length xs ≤ n → length (filter test xs) ≤ n
+fewer_left test xs n h = let i : length (filter test xs) ≤ length xs = fewer test xs in omega (arith, h, i)
+  where
+    fewer : {A : Type 0} (test : A → Bool) (xs : List A) → length (filter test xs) ≤ length xs
+    fewer test [] = omega arith
+    fewer test (x ∷ xs) =
+        elim (test x) as (λ b. length (cond b (x ∷ filter test xs) (filter test xs)) ≤ suc (length xs)) [
+          | true ↦ let h : length (filter test xs) ≤ length xs = fewer test xs in omega (arith, h)
+          | false ↦ let h : length (filter test xs) ≤ length xs = fewer test xs in omega (arith, h)
+        ]
+
 all_flat_apart : {A B : Type 0} (P : B → Type 0) (f : A → List B) (xs : List A) → AllByRecursion P (flat_map f xs) → AllByRecursion (λ (x : A). AllByRecursion P (f x)) xs
 all_flat_apart P f [] h = tt
 all_flat_apart P f (x ∷ xs) h = (all_front P (f x) _ h, all_flat_apart P f xs (all_behind P (f x) _ h))
@@ -75,11 +91,14 @@ module _ (K : Checks) (steady : IsSteady K) (C : Cat) (T : Tables) (s : IsSound 
   own_left None e h = tt
   own_left (Some m) e h = policy_left m e h
 
-  calls_left : (ms : Mentions) → list_any (is_policy_mention n) ms ≡ false → AllByRecursion (Stands C) ms → AllByRecursion (Stands NoPolicy) ms
-  calls_left [] e h = tt
-  calls_left (table m ∷ ms) e h = (h.0, calls_left ms e h.1)
-  calls_left (policy m ∷ ms) e h = (policy_left m (or_left _ _ e) h.0, calls_left ms (or_right (bytes_eq m n) _ e) h.1)
-  calls_left (label m l ∷ ms) e h = (policy_left m (or_left _ _ e) h.0, calls_left ms (or_right (bytes_eq m n) _ e) h.1)
+  calls_left : (own : List ℕ) (ms : Mentions) → list_any (is_policy_mention n) ms ≡ false → AllByRecursion (Sources C own) ms → AllByRecursion (Sources NoPolicy own) ms
+  calls_left own [] e h = tt
+  calls_left own (table m ∷ ms) e h = (h.0, calls_left own ms e h.1)
+  calls_left own (policy m ∷ ms) e h = (policy_left m (or_left _ _ e) h.0, calls_left own ms (or_right (bytes_eq m n) _ e) h.1)
+  calls_left own (label m l ∷ ms) e h = (policy_left m (or_left _ _ e) h.0, calls_left own ms (or_right (bytes_eq m n) _ e) h.1)
+
+  calls_stand : (own : List ℕ) (ms : Mentions) → AllByRecursion (Sources NoPolicy own) ms → AllByRecursion (Stands NoPolicy) ms
+  calls_stand own ms h = all_follow (Sources NoPolicy own) (Stands NoPolicy) (source_stands NoPolicy own) ms h
 
   labels_left : (o : Option (List ℕ)) → is_same_name n o ≡ false → (l : List ℕ) → has_label (policy_of C o) l ≡ true → has_label (policy_of NoPolicy o) l ≡ true
   labels_left None e l h = h
@@ -89,28 +108,31 @@ module _ (K : Checks) (steady : IsSteady K) (C : Cat) (T : Tables) (s : IsSound 
   record Left (t : Table) : Type 0 where
     pub own : is_same_name n t.policy ≡ false
     pub policy : IfGiven (HasPolicy NoPolicy) t.policy
-    pub mentions : AllByRecursion (Stands NoPolicy) (mentioned_in t)
+    pub mentions : AllByRecursion (Sources NoPolicy t.name) (mentioned_in t)
 
   left_of : (t : Table) → (has_policy n t || calls_policy n t) ≡ false → TableIsSound K C t → Left t
   left_of t e h = record {
     own = or_left _ _ e;
     policy = own_left t.policy (or_left _ _ e) h.policy;
-    mentions = calls_left (mentioned_in t) (or_right (has_policy n t) _ e) (stored_together (Stands C) t h.permissions h.masks);
+    mentions = calls_left t.name (mentioned_in t) (or_right (has_policy n t) _ e) (stored_together (Sources C t.name) t h.permissions h.masks);
   }
 
   all_left : (ts : List Table) → AllByRecursion (λ (t : Table). (has_policy n t || calls_policy n t) ≡ false) ts → AllByRecursion (TableIsSound K C) ts → AllByRecursion Left ts
   all_left [] e h = tt
   all_left (t ∷ ts) e h = (left_of t e.0 h.0, all_left ts e.1 h.1)
 
+  no_policy_folded : HasFoldedNames NoPolicy
+  no_policy_folded = all_filter (λ (x : Policy). IsFolded x.name) (λ x. not (is_policy n x)) C.policies (folded_of K C p)
+
   module _ (left : AllByRecursion Left C.tables) where
     left_reads : Reads K C NoPolicy (HasTable C) (Stands NoPolicy)
-    left_reads = reads_kept C NoPolicy (HasTable C) (HasPolicy NoPolicy) (HasComponent C) (λ m _. refl) (λ m h. same_without (λ (y : Policy). y.name) n m C.policies h) (λ m _. refl) (λ m _. stored m) (λ m _. owned m) (λ m _. components_there K C p m) K steady
+    left_reads = reads_kept C NoPolicy (HasTable C) (HasPolicy NoPolicy) (HasComponent C) (λ m _. refl) (λ m h. same_without (λ (y : Policy). y.name) n m C.policies h) (λ m _. refl) (λ m _. stored m) (λ m _. owned m) (λ m _. components_there K C p m) K steady (folded_of K C p) no_policy_folded
       where
         stored : (m : List ℕ) → AllByRecursion (Stands NoPolicy) (in_table (table_named C m))
         stored m =
             elim (table_named C m) as (λ o. table_named C m ≡ o → AllByRecursion (Stands NoPolicy) (in_table o)) [
               | None ↦ λ _. tt
-              | Some t ↦ λ e. let h : Left t = all_found Left (is_table m) C.tables t left e in h.mentions
+              | Some t ↦ λ e. let h : Left t = all_found Left (is_table m) C.tables t left e in calls_stand t.name (mentioned_in t) h.mentions
             ] refl
 
         owned : (m : List ℕ) → IfGiven (HasPolicy NoPolicy) (policy_of_table (table_named C m))
@@ -123,12 +145,14 @@ module _ (K : Checks) (steady : IsSteady K) (C : Cat) (T : Tables) (s : IsSound 
     tables_left : (ts : List Table) → AllByRecursion (λ (x : Table). HasTable C x.name) ts → AllByRecursion Left ts → AllByRecursion (TableIsSound K C) ts → AllByRecursion (TableIsSound K NoPolicy) ts
     tables_left [] o l h = tt
     tables_left (t ∷ ts) o l h =
-        let r : InPermissions (Stands NoPolicy) t.permissions × InMasks (Stands NoPolicy) t.masks = stored_apart (Stands NoPolicy) t l.0.mentions in (
+        let g : InPermissions (Sources NoPolicy t.name) t.permissions × InMasks (Sources NoPolicy t.name) t.masks = stored_apart (Sources NoPolicy t.name) t l.0.mentions in
+        let r : InPermissions (Stands NoPolicy) t.permissions × InMasks (Stands NoPolicy) t.masks = stored_apart (Stands NoPolicy) t (calls_stand t.name (mentioned_in t) l.0.mentions) in (
           record {
             policy = l.0.policy;
-            permissions = r.0;
-            masks = r.1;
+            permissions = g.0;
+            masks = g.1;
             columns = h.0.columns;
+            few = h.0.few;
             label_columns = h.0.label_columns;
             belonging = belonging_follows C NoPolicy t (labels_left t.policy l.0.own) h.0.belonging;
             stored = stored_moves K C NoPolicy (HasTable C) (Stands NoPolicy) left_reads t o.0 r.0 r.1 h.0.stored;
@@ -161,10 +185,12 @@ module _ (K : Checks) (steady : IsSteady K) (C : Cat) (T : Tables) (s : IsSound 
           users = subst AreDifferent (sym (names_mapped (without_holding n) (λ u. refl) C.users)) p.one_each.users;
           roles = p.one_each.roles;
         };
+        few = p.few;
+        made = p.made;
         stored = p.stored;
         tables = tables_left left C.tables (all_there (λ (x : Table). x.name) C.tables) left p.tables;
         policies = all_filter (PolicyIsSound NoPolicy) (λ x. not (is_policy n x)) C.policies
-            (all_follow (PolicyIsSound C) (PolicyIsSound NoPolicy) (λ x i. record { components = i.components; labels = i.labels; shape = record { shape = i.shape.shape; labels = i.shape.labels } }) C.policies p.policies);
+            (all_follow (PolicyIsSound C) (PolicyIsSound NoPolicy) (λ x i. record { folded = i.folded; few = i.few; components = i.components; labels = i.labels; shape = record { shape = i.shape.shape; labels = i.shape.labels } }) C.policies p.policies);
         users = all_map (UserIsSound C) (UserIsSound NoPolicy) (without_holding n) user_left C.users p.users;
       })
 
@@ -182,23 +208,35 @@ module _ (K : Checks) (steady : IsSteady K) (C : Cat) (T : Tables) (s : IsSound 
   table_left : (m : List ℕ) → bytes_eq m n ≡ false → HasTable C m → HasTable NoTable m
   table_left m off h = there_without (λ (y : Table). y.name) n m C.tables (turned m n off) h
 
-  mentions_left : (ms : Mentions) → list_any (is_table_mention n) ms ≡ false → AllByRecursion (Stands C) ms → AllByRecursion (Stands NoTable) ms
-  mentions_left [] e h = tt
-  mentions_left (table m ∷ ms) e h = (table_left m (or_left _ _ e) h.0, mentions_left ms (or_right (bytes_eq m n) _ e) h.1)
-  mentions_left (policy m ∷ ms) e h = (h.0, mentions_left ms e h.1)
-  mentions_left (label m l ∷ ms) e h = (h.0, mentions_left ms e h.1)
+  plain_left : StaysPlain C NoTable
+  plain_left m _ h =
+      elim (bytes_eq n m) as (λ b. bytes_eq n m ≡ b → has_labels (table_named NoTable m) ≡ false) [
+        | true ↦ λ e. subst (λ (k : List ℕ). has_labels (table_named NoTable k) ≡ false) ((bytes_eq-Decides n m).0 e) (ap has_labels (found_without (λ (y : Table). y.name) n C.tables))
+        | false ↦ λ e. ap has_labels (without_other (λ (y : Table). y.name) n m C.tables e) ∙ h
+      ] refl
 
-  stored_left : (xs : List Stored) → AllByRecursion (λ (x : Stored). names_table n x ≡ false) xs → AllByRecursion (Stands C) (flat_map mentions_of xs) → AllByRecursion (Stands NoTable) (flat_map mentions_of xs)
-  stored_left [] e h = tt
-  stored_left (x ∷ xs) e h =
-      all_append (Stands NoTable) x.mentions (flat_map mentions_of xs) (mentions_left x.mentions e.0 (all_front (Stands C) x.mentions _ h)) (stored_left xs e.1 (all_behind (Stands C) x.mentions _ h))
+  mentions_left : (own : List ℕ) (ms : Mentions) → list_any (is_table_mention n) ms ≡ false → AllByRecursion (Sources C own) ms → AllByRecursion (Sources NoTable own) ms
+  mentions_left own [] e h = tt
+  mentions_left own (table m ∷ ms) e h =
+      let bad : is_bad_source NoTable own m ≡ false = neither (bytes_eq m own) _ (or_left _ _ h.0.1) (plain_left m h.0.0 (or_right (bytes_eq m own) _ h.0.1)) in
+      ((table_left m (or_left _ _ e) h.0.0, bad), mentions_left own ms (or_right (bytes_eq m n) _ e) h.1)
+  mentions_left own (policy m ∷ ms) e h = (h.0, mentions_left own ms e h.1)
+  mentions_left own (label m l ∷ ms) e h = (h.0, mentions_left own ms e h.1)
+
+  stored_left : (own : List ℕ) (xs : List Stored) → AllByRecursion (λ (x : Stored). names_table n x ≡ false) xs → AllByRecursion (Sources C own) (flat_map mentions_of xs) → AllByRecursion (Sources NoTable own) (flat_map mentions_of xs)
+  stored_left own [] e h = tt
+  stored_left own (x ∷ xs) e h =
+      all_append (Sources NoTable own) x.mentions (flat_map mentions_of xs) (mentions_left own x.mentions e.0 (all_front (Sources C own) x.mentions _ h)) (stored_left own xs e.1 (all_behind (Sources C own) x.mentions _ h))
+
+  still_stands : (own : List ℕ) (ms : Mentions) → AllByRecursion (Sources NoTable own) ms → AllByRecursion (Stands NoTable) ms
+  still_stands own ms h = all_follow (Sources NoTable own) (Stands NoTable) (source_stands NoTable own) ms h
 
   abbrev pub Names_left : Table → Type 0
-  Names_left t = AllByRecursion (Stands NoTable) (mentioned_in t)
+  Names_left t = AllByRecursion (Sources NoTable t.name) (mentioned_in t)
 
   all_names_left : (ts : List Table) → AllByRecursion (λ (t : Table). AllByRecursion (λ (x : Stored). names_table n x ≡ false) (stored_in t)) ts → AllByRecursion (TableIsSound K C) ts → AllByRecursion Names_left ts
   all_names_left [] e h = tt
-  all_names_left (t ∷ ts) e h = (stored_left (stored_in t) e.0 (stored_together (Stands C) t h.0.permissions h.0.masks), all_names_left ts e.1 h.1)
+  all_names_left (t ∷ ts) e h = (stored_left t.name (stored_in t) e.0 (stored_together (Sources C t.name) t h.0.permissions h.0.masks), all_names_left ts e.1 h.1)
 
   module _ (left : AllByRecursion Names_left NoTable.tables) where
     same_table : (m : List ℕ) → HasTable NoTable m → table_named NoTable m ≡ table_named C m
@@ -206,24 +244,26 @@ module _ (K : Checks) (steady : IsSteady K) (C : Cat) (T : Tables) (s : IsSound 
 
     still_reads : Reads K C NoTable (HasTable NoTable) (Stands NoTable)
     still_reads = reads_kept C NoTable (HasTable NoTable) (HasPolicy C) (HasComponent C) same_table (λ m _. refl) (λ m _. refl)
-        (λ m h. subst (λ (o : Option Table). AllByRecursion (Stands NoTable) (in_table o)) (same_table m h) (stored m)) (λ m _. policy_there K C p m) (λ m _. components_there K C p m) K steady
+        (λ m h. subst (λ (o : Option Table). AllByRecursion (Stands NoTable) (in_table o)) (same_table m h) (stored m)) (λ m _. policy_there K C p m) (λ m _. components_there K C p m) K steady (folded_of K C p) (folded_of K C p)
       where
         stored : (m : List ℕ) → AllByRecursion (Stands NoTable) (in_table (table_named NoTable m))
         stored m =
             elim (table_named NoTable m) as (λ o. table_named NoTable m ≡ o → AllByRecursion (Stands NoTable) (in_table o)) [
               | None ↦ λ _. tt
-              | Some t ↦ λ e. all_found Names_left (is_table m) NoTable.tables t left e
+              | Some t ↦ λ e. let h : Names_left t = all_found Names_left (is_table m) NoTable.tables t left e in still_stands t.name (mentioned_in t) h
             ] refl
 
     still_tables : (ts : List Table) → AllByRecursion (λ (x : Table). HasTable NoTable x.name) ts → AllByRecursion Names_left ts → AllByRecursion (TableIsSound K C) ts → AllByRecursion (TableIsSound K NoTable) ts
     still_tables [] o l h = tt
     still_tables (t ∷ ts) o l h =
-        let r : InPermissions (Stands NoTable) t.permissions × InMasks (Stands NoTable) t.masks = stored_apart (Stands NoTable) t l.0 in (
+        let g : InPermissions (Sources NoTable t.name) t.permissions × InMasks (Sources NoTable t.name) t.masks = stored_apart (Sources NoTable t.name) t l.0 in
+        let r : InPermissions (Stands NoTable) t.permissions × InMasks (Stands NoTable) t.masks = stored_apart (Stands NoTable) t (still_stands t.name (mentioned_in t) l.0) in (
           record {
             policy = h.0.policy;
-            permissions = r.0;
-            masks = r.1;
+            permissions = g.0;
+            masks = g.1;
             columns = h.0.columns;
+            few = h.0.few;
             label_columns = h.0.label_columns;
             belonging = belonging_follows C NoTable t (λ x z. z) h.0.belonging;
             stored = stored_moves K C NoTable (HasTable NoTable) (Stands NoTable) still_reads t o.0 r.0 r.1 h.0.stored;
@@ -255,9 +295,11 @@ module _ (K : Checks) (steady : IsSteady K) (C : Cat) (T : Tables) (s : IsSound 
           users = subst AreDifferent (sym (names_mapped (without_grant n) (λ u. refl) C.users)) p.one_each.users;
           roles = p.one_each.roles;
         };
+        few = fewer_left test C.tables 64 p.few;
+        made = p.made;
         stored = names.different p.stored;
         tables = still_tables left NoTable.tables (all_there (λ (x : Table). x.name) NoTable.tables) left ts;
-        policies = all_follow (PolicyIsSound C) (PolicyIsSound NoTable) (λ x i. record { components = i.components; labels = i.labels; shape = record { shape = i.shape.shape; labels = i.shape.labels } }) C.policies p.policies;
+        policies = all_follow (PolicyIsSound C) (PolicyIsSound NoTable) (λ x i. record { folded = i.folded; few = i.few; components = i.components; labels = i.labels; shape = record { shape = i.shape.shape; labels = i.shape.labels } }) C.policies p.policies;
         users = all_map (UserIsSound C) (UserIsSound NoTable) (without_grant n) user_still C.users p.users;
       })
 

@@ -19,12 +19,14 @@ use Rattle.lb_rows.specs.Lists.{put, without}
 use Rattle.lb_cat.specs.Catalog.{Cat, Table, Policy, User, table_named, policy_named, label_named, is_among}
 use Rattle.lb_cat.specs.Privileges.{is_grant_on, has_none, with_granted, privileges_on, with_privileges}
 use Rattle.lb_cat.specs.Holdings.{is_holding_of, is_empty_holding, holding_of, no_holding, with_holding, holds_label, other_than, with_exemptions, without_exemptions}
-use Rattle.lb_alter.specs.Stored.{Checks}
-use Rattle.lb_alter.specs.Refusing.{Changed, OrRefused, ◌>>=◌, ◌>>◌, when, found, owner, secadm}
-use Rattle.lb_alter.specs.ChangeTable.{has_label}
 use Rattle.lb_alter.specs.ChangeGrant.{user_or_new, reads, writes, held_refusal, if_granted, with_label, mismatch, grant_label, without_label, revoke_label, exempting, grant_exemption, revoke_exemption, with_user_privileges}
-use Rattle.lb_alter.specs.Sound.{AreDifferent, are_different, IfGiven, HasTable, HasPolicy, IsPolicyLabel, HoldsLabels, HoldsSomething, GrantsSomething, IsSound}
-use Rattle.lb_alter.specs.Laws.{IsSteady}
+use Rattle.lb_alter.specs.ChangeTable.{has_label}
+use Rattle.lb_alter.specs.Labelled.{IsPolicyLabel, HoldsLabels}
+use Rattle.lb_alter.specs.Named.{AreDifferent, are_different, IfGiven, HasTable, HasPolicy, HoldsSomething, GrantsSomething}
+use Rattle.lb_alter.specs.Refusing.{Changed, OrRefused, ◌>>=◌, ◌>>◌, when, found, owner, secadm}
+use Rattle.lb_alter.specs.Sound.{IsSound}
+use Rattle.lb_alter.specs.Steady.{IsSteady}
+use Rattle.lb_alter.specs.Stored.{Checks}
 use Rattle.lb_alter.proofs.SoundUsers.{UserIsSound, LeavesSound, test_sound, grants_sound, revokes_sound, user_sound, all_put, all_filter, all_found, different_put, and_left, and_right, not_so, both}
 use Rattle.lb_alter.proofs.Untouched.{or_left, or_right, named_there}
 

@@ -1,11 +1,12 @@
 -- Roles and components that are made and dropped, and policies that are made, leave a sound catalogue sound.
-use Rattle.std.proofs.Common.{◌≡◌, refl, sym, ap, subst, ◌∙◌, ℕ, Bool, true, false, cond, not, ◌||◌, List, [], ◌∷◌, map, length, Option, Some, None, Ok, Err, is_some, is_none}
-use Rattle.std.specs.Prelude.{find, filter_map, option_map, nat_lt}
+use Rattle.std.proofs.Common.{◌≡◌, refl, sym, ap, subst, ◌∙◌, ℕ, Bool, true, false, cond, not, ◌||◌, List, [], ◌∷◌, map, length, Option, Some, None, Ok, Err, is_some, is_none, suc, ◌<◌, ◌≤◌, arith}
+use Rattle.std.specs.Prelude.{find, filter_map, option_map, nat_lt, nat_le}
 use Rattle.std.specs.List.{AllByRecursion, AllZip, list_any, cons_option}
 use Rattle.std.specs.Str.{bytes_eq}
+use Rattle.std.proofs.lemmas.Bool.{leb-false}
 use Rattle.std.proofs.lemmas.Slice.Eq.{bytes_eq-Decides}
 use Rattle.lb_base.specs.declared.key.Key.TheVariants as keys
-use Rattle.lb_label.specs.Component.{Definition, empty_component}
+use Rattle.lb_label.specs.Component.{Definition, empty_component, IsComponent}
 use Rattle.lb_stmt.specs.declared.change.ComponentDef.{ComponentDef}
 use Rattle.lb_stmt.specs.declared.change.PolicyDef.{PolicyDef}
 use Rattle.lb_cat.specs.declared.catalog.Holding.{Holding}
@@ -16,19 +17,23 @@ use Rattle.lb_cat.specs.declared.refusal.LimitOf.TheVariants as limits
 use Rattle.lb_rows.specs.Tables.{Tables}
 use Rattle.lb_rows.specs.Lists.{put, without}
 use Rattle.lb_cat.specs.Catalog.{Cat, Table, Policy, Component, User, table_named, policy_named, component_named, has_role, is_role, is_component, is_policy, is_among, put_role, drop_role, put_component, drop_component, put_policy}
-use Rattle.lb_alter.specs.Stored.{Checks}
-use Rattle.lb_alter.specs.Deps.{in_table, policy_of_table, components_of}
-use Rattle.lb_alter.specs.Refusing.{OrRefused, ◌>>=◌, when, earliest, secadm, done}
-use Rattle.lb_alter.specs.ChangeTable.{has_label, policy_of, in_use}
-use Rattle.lb_alter.specs.ChangeLabel.{kind_of_definition, elements_of, with_elements, create_component, policy_name, has_component, drop_component_of, components_refusal, definition_of, definition_named, new_policy, create_policy, user_name}
 use Rattle.lb_alter.specs.ChangeGrant.{create_role, has_role_of, the_role, drop_role_of}
-use Rattle.lb_alter.specs.Sound.{AreDifferent, IfGiven, HasTable, HasPolicy, HasComponent, HasRole, IsPolicyLabel, HoldsLabels, StandsUnder, IsSound}
-use Rattle.lb_alter.specs.Laws.{IsSteady}
-use Rattle.lb_alter.proofs.SoundUsers.{UserIsSound, LeavesSound, test_sound, done_sound, all_put, all_follow, all_found, different_put}
+use Rattle.lb_alter.specs.ChangeLabel.{kind_of_definition, elements_of, with_elements, create_component, policy_name, has_component, drop_component_of, components_refusal, definition_of, definition_named, new_policy, create_policy, user_name}
+use Rattle.lb_alter.specs.ChangeTable.{has_label, policy_of, in_use}
+use Rattle.lb_alter.specs.Deps.{in_table, policy_of_table, components_of}
+use Rattle.lb_alter.specs.Labelled.{IsPolicyLabel, HoldsLabels, StandsUnder}
+use Rattle.lb_alter.specs.Named.{AreDifferent, IfGiven, HasTable, HasPolicy, HasComponent, HasRole, HasFoldedNames}
+use Rattle.lb_alter.specs.Refusing.{OrRefused, ◌>>=◌, when, earliest, secadm, done}
+use Rattle.lb_alter.specs.Sound.{IsSound, IsWellMade}
+use Rattle.lb_alter.specs.Steady.{IsSteady}
+use Rattle.lb_alter.specs.Stored.{Checks, mentioned_in}
+use Rattle.lb_alter.proofs.MadeComponents.{IsWell, made_well}
 use Rattle.lb_alter.proofs.SoundGrants.{different_filter, found_then}
-use Rattle.lb_alter.proofs.SoundParts.{Stands, stored_together, TableIsSound, PolicyIsSound, Parts, apart, together, Reads, reads_kept}
-use Rattle.lb_alter.proofs.SoundTables.{itself, there_put, same_put, same_without, there_without, table_moves, user_moves}
+use Rattle.lb_alter.proofs.SoundParts.{Stands, stored_together, TableIsSound, PolicyIsSound, Parts, apart, together, Reads, reads_kept, Sources, folded_of, source_stands}
+use Rattle.lb_alter.proofs.SoundTables.{itself, there_put, same_put, same_without, there_without, table_moves, user_moves, StaysPlain}
+use Rattle.lb_alter.proofs.SoundUsers.{UserIsSound, LeavesSound, test_sound, done_sound, all_put, all_follow, all_found, different_put, all_filter}
 use Rattle.lb_alter.proofs.Untouched.{or_left, or_right, turned}
+use Rattle.lb_base.specs.Names.{IsFolded}
 
 -- ---- lists
 
@@ -47,6 +52,13 @@ not_in_use n f (Some x) h = absurd cc
 pub is_new : (b : Bool) (r : Refusal) → when b r ≡ None → b ≡ false
 is_new true r h = absurd cc
 is_new false r h = refl
+
+-- tests of limits that passed
+pub not_more : (n k : ℕ) → nat_lt n k ≡ false → k ≤ n
+not_more n k h = let i : k < suc n = leb-false (suc n) k h in omega (arith, i)
+
+pub not_full : (n k : ℕ) → nat_le n k ≡ false → k < n
+not_full n k h = leb-false n k h
 
 -- what holds of names, where one of them isn't among them
 pub all_but : (P Q : List ℕ → Type 0) (m : List ℕ) → ((n : List ℕ) → bytes_eq n m ≡ false → P n → Q n) → (ns : List (List ℕ)) → is_among ns m ≡ false → AllByRecursion P ns → AllByRecursion Q ns
@@ -78,12 +90,15 @@ module _ {R : Type 0} (name : R → List ℕ) where
 
 -- ---- what a sound catalogue has
 
+pub sources_stand : {K : Checks} (C : Cat) (t : Table) → TableIsSound K C t → AllByRecursion (Stands C) (mentioned_in t)
+sources_stand C t h = all_follow (Sources C t.name) (Stands C) (source_stands C t.name) (mentioned_in t) (stored_together (Sources C t.name) t h.permissions h.masks)
+
 module _ (K : Checks) (C : Cat) (p : Parts K C) where
   pub stored_there : (n : List ℕ) → AllByRecursion (Stands C) (in_table (table_named C n))
   stored_there n =
       elim (table_named C n) as (λ o. table_named C n ≡ o → AllByRecursion (Stands C) (in_table o)) [
         | None ↦ λ _. tt
-        | Some t ↦ λ e. let h : TableIsSound K C t = all_found (TableIsSound K C) _ C.tables t p.tables e in stored_together (Stands C) t h.permissions h.masks
+        | Some t ↦ λ e. let h : TableIsSound K C t = all_found (TableIsSound K C) _ C.tables t p.tables e in sources_stand C t h
       ] refl
 
   pub policy_there : (n : List ℕ) → IfGiven (HasPolicy C) (policy_of_table (table_named C n))
@@ -101,17 +116,17 @@ module _ (K : Checks) (C : Cat) (p : Parts K C) where
       ] refl
 
   -- stored conditions stay right where the records that are there stay as they are
-  pub reads_there : IsSteady K → (D : Cat) → ((n : List ℕ) → HasTable C n → table_named D n ≡ table_named C n) → ((n : List ℕ) → HasPolicy C n → policy_named D n ≡ policy_named C n)
+  pub reads_there : IsSteady K → (D : Cat) → HasFoldedNames D → ((n : List ℕ) → HasTable C n → table_named D n ≡ table_named C n) → ((n : List ℕ) → HasPolicy C n → policy_named D n ≡ policy_named C n)
       → ((n : List ℕ) → HasComponent C n → component_named D n ≡ component_named C n) → Reads K C D (HasTable C) (Stands C)
-  reads_there steady D ts ps cs = reads_kept C D (HasTable C) (HasPolicy C) (HasComponent C) ts ps cs (λ n _. stored_there n) (λ n _. policy_there n) (λ n _. components_there n) K steady
+  reads_there steady D f ts ps cs = reads_kept C D (HasTable C) (HasPolicy C) (HasComponent C) ts ps cs (λ n _. stored_there n) (λ n _. policy_there n) (λ n _. components_there n) K steady (folded_of K C p) f
 
   pub tables_move : (D : Cat) → Reads K C D (HasTable C) (Stands C) → ((n : List ℕ) → HasTable C n → HasTable D n) → ((n : List ℕ) → HasPolicy C n → HasPolicy D n)
-      → ((o : Option (List ℕ)) (l : List ℕ) → has_label (policy_of C o) l ≡ true → has_label (policy_of D o) l ≡ true) → AllByRecursion (TableIsSound K D) C.tables
-  tables_move D r f g l = each C.tables (all_there (λ (x : Table). x.name) C.tables) p.tables
+      → ((o : Option (List ℕ)) (l : List ℕ) → has_label (policy_of C o) l ≡ true → has_label (policy_of D o) l ≡ true) → StaysPlain C D → AllByRecursion (TableIsSound K D) C.tables
+  tables_move D r f g l q = each C.tables (all_there (λ (x : Table). x.name) C.tables) p.tables
     where
       each : (xs : List Table) → AllByRecursion (λ (x : Table). HasTable C x.name) xs → AllByRecursion (TableIsSound K C) xs → AllByRecursion (TableIsSound K D) xs
       each [] o h = tt
-      each (x ∷ xs) o h = (table_moves K C D (HasTable C) (Stands C) r x o.0 (λ m z. z) f g (λ n z. l x.policy n z) h.0, each xs o.1 h.1)
+      each (x ∷ xs) o h = (table_moves K C D (HasTable C) (Stands C) r x o.0 (λ m z. z) f g (λ n z. l x.policy n z) q h.0, each xs o.1 h.1)
 
 -- ---- roles
 
@@ -147,9 +162,11 @@ module _ (K : Checks) (steady : IsSteady K) (C : Cat) (T : Tables) (s : IsSound 
       let p : Parts K C = apart K C s in
       together K D (record {
         one_each = record { tables = p.one_each.tables; policies = p.one_each.policies; components = p.one_each.components; users = p.one_each.users; roles = d };
+        few = p.few;
+        made = p.made;
         stored = p.stored;
-        tables = tables_move K C p D (reads_there K C p steady D (λ n _. refl) (λ n _. refl) (λ n _. refl)) (λ n z. z) (λ n z. z) (λ o l z. z);
-        policies = all_follow (PolicyIsSound C) (PolicyIsSound D) (λ x i. record { components = i.components; labels = i.labels; shape = record { shape = i.shape.shape; labels = i.shape.labels } }) C.policies p.policies;
+        tables = tables_move K C p D (reads_there K C p steady D (folded_of K C p) (λ n _. refl) (λ n _. refl) (λ n _. refl)) (λ n z. z) (λ n z. z) (λ o l z. z) (λ n _ z. z);
+        policies = all_follow (PolicyIsSound C) (PolicyIsSound D) (λ x i. record { folded = i.folded; few = i.few; components = i.components; labels = i.labels; shape = record { shape = i.shape.shape; labels = i.shape.labels } }) C.policies p.policies;
         users = users_with C.users h p.users;
       })
     where
@@ -183,15 +200,17 @@ module _ (K : Checks) (steady : IsSteady K) (C : Cat) (T : Tables) (s : IsSound 
   defined_there None c h = absurd cc
   defined_there (Some x) c h = refl
 
-  with_components_parts : (cs : List Component) → AreDifferent (map (λ c. c.name) cs) → (Q : List ℕ → Type 0) → ((n : List ℕ) → Q n → component_named (record C { components = cs }) n ≡ component_named C n)
+  with_components_parts : (cs : List Component) → AreDifferent (map (λ c. c.name) cs) → AllByRecursion IsWellMade cs → (Q : List ℕ → Type 0) → ((n : List ℕ) → Q n → component_named (record C { components = cs }) n ≡ component_named C n)
       → AllByRecursion (λ (x : Policy). AllByRecursion Q x.components) C.policies → AllByRecursion (PolicyIsSound (record C { components = cs })) C.policies → IsSound K (record C { components = cs })
-  with_components_parts cs d Q same made h =
+  with_components_parts cs d w Q same made h =
       let D : Cat = record C { components = cs } in
       let p : Parts K C = apart K C s in
       together K D (record {
         one_each = record { tables = p.one_each.tables; policies = p.one_each.policies; components = d; users = p.one_each.users; roles = p.one_each.roles };
+        few = p.few;
+        made = w;
         stored = p.stored;
-        tables = tables_move K C p D (reads_kept C D (HasTable C) (HasPolicy C) Q (λ n _. refl) (λ n _. refl) same (λ n _. stored_there K C p n) (λ n _. policy_there K C p n) (λ n _. of_policy n) K steady) (λ n z. z) (λ n z. z) (λ o l z. z);
+        tables = tables_move K C p D (reads_kept C D (HasTable C) (HasPolicy C) Q (λ n _. refl) (λ n _. refl) same (λ n _. stored_there K C p n) (λ n _. policy_there K C p n) (λ n _. of_policy n) K steady (folded_of K C p) (folded_of K C p)) (λ n z. z) (λ n z. z) (λ o l z. z) (λ n _ z. z);
         policies = h;
         users = all_follow (UserIsSound C) (UserIsSound D)
             (λ x i. user_moves C D (λ n z. z) x i i.records.roles i.records.held (all_follow (HoldsLabels C) (HoldsLabels D) (λ y j. record { read = j.read; write = j.write }) x.held i.held)) C.users p.users;
@@ -207,23 +226,25 @@ module _ (K : Checks) (steady : IsSteady K) (C : Cat) (T : Tables) (s : IsSound 
   pub create_component_sound : (user n : List ℕ) (d : ComponentDef) → LeavesSound K (create_component C T user n d)
   create_component_sound user n d =
       test_sound K (secadm C user) _ (λ _. test_sound K (when (is_some (component_named C n)) (refusals.Exists n)) _
-      (λ new. made_then (with_elements 0 (empty_component (kind_of_definition d)) (elements_of d)) (is_new _ _ new)))
+      (λ new. made_then (with_elements 0 (empty_component (kind_of_definition d)) (elements_of d)) (made_well d) (is_new _ _ new)))
     where
-      put_is_sound : (c : Definition) → is_some (component_named C n) ≡ false → IsSound K (put_component (record { name = n; definition = c }) C)
-      put_is_sound c new =
+      put_is_sound : (c : Definition) → IsComponent c → is_some (component_named C n) ≡ false → IsSound K (put_component (record { name = n; definition = c }) C)
+      put_is_sound c well new =
           let x : Component = record { name = n; definition = c } in
           let D : Cat = put_component x C in
           let same : (m : List ℕ) → HasComponent C m → component_named D m ≡ component_named C m = λ m h. same_put (λ (y : Component). y.name) x C.components m new h in
-          with_components_parts (put (is_component n) x C.components) (different_put (λ (y : Component). y.name) x C.components s.one_each.components) (HasComponent C) same s.records.policies
+          with_components_parts (put (is_component n) x C.components) (different_put (λ (y : Component). y.name) x C.components s.one_each.components) (all_put IsWellMade (is_component n) x C.components s.limits.components well) (HasComponent C) same s.records.policies
           (all_follow (PolicyIsSound C) (PolicyIsSound D) (λ y i. record {
+            folded = i.folded;
+            few = i.few;
             components = all_follow (HasComponent C) (HasComponent D) (λ m h. there_put (λ (z : Component). z.name) x C.components m h) y.components i.components;
             labels = i.labels;
             shape = record { shape = zip_follow (StandsUnder C) (StandsUnder D) (λ m z h. ap (option_map definition_of) (same m (defined_there _ z h)) ∙ h) y.components y.shape i.shape.shape; labels = i.shape.labels };
           }) C.policies (apart K C s).policies)
 
-      made_then : (o : OrRefused Definition) → is_some (component_named C n) ≡ false → LeavesSound K (o >>= (λ c. done (put_component (record { name = n; definition = c }) C) T (keys.Component n ∷ [])))
-      made_then (Ok c) new = done_sound K _ T (keys.Component n ∷ []) (put_is_sound c new)
-      made_then (Err r) new = record { sound = λ d e. absurd cc }
+      made_then : (o : OrRefused Definition) → IsWell o → is_some (component_named C n) ≡ false → LeavesSound K (o >>= (λ c. done (put_component (record { name = n; definition = c }) C) T (keys.Component n ∷ [])))
+      made_then (Ok c) w new = done_sound K _ T (keys.Component n ∷ []) (put_is_sound c w new)
+      made_then (Err r) w new = record { sound = λ d e. absurd cc }
 
   pub drop_component_sound : (user n : List ℕ) → LeavesSound K (drop_component_of C T user n)
   drop_component_sound user n =
@@ -240,6 +261,8 @@ module _ (K : Checks) (steady : IsSteady K) (C : Cat) (T : Tables) (s : IsSound 
       each [] f i = tt
       each (x ∷ xs) f i = (
         record {
+          folded = i.0.folded;
+          few = i.0.few;
           components = all_but (HasComponent C) (HasComponent (drop_component n C)) n off_there x.components f.0 i.0.components;
           labels = i.0.labels;
           shape = record {
@@ -253,7 +276,7 @@ module _ (K : Checks) (steady : IsSteady K) (C : Cat) (T : Tables) (s : IsSound 
       left_sound : AllByRecursion (λ (x : Policy). has_component n x ≡ false) C.policies → IsSound K (drop_component n C)
       left_sound f =
           let h : AllByRecursion (PolicyIsSound (drop_component n C)) C.policies = each C.policies f (apart K C s).policies in
-          with_components_parts (without (is_component n) C.components) (different_filter (λ (y : Component). y.name) (λ c. not (is_component n c)) C.components s.one_each.components) (HasComponent (drop_component n C)) same
+          with_components_parts (without (is_component n) C.components) (different_filter (λ (y : Component). y.name) (λ c. not (is_component n c)) C.components s.one_each.components) (all_filter IsWellMade (λ c. not (is_component n c)) C.components s.limits.components) (HasComponent (drop_component n C)) same
           (all_follow (PolicyIsSound (drop_component n C)) (λ (x : Policy). AllByRecursion (HasComponent (drop_component n C)) x.components) (λ x i. i.components) C.policies h) h
 
   -- ---- policies
@@ -279,10 +302,10 @@ module _ (K : Checks) (steady : IsSteady K) (C : Cat) (T : Tables) (s : IsSound 
   labelled_there None l h = absurd cc
   labelled_there (Some p) l h = refl
 
-  pub create_policy_sound : (user : List ℕ) (d : PolicyDef) → LeavesSound K (create_policy C T user d)
-  create_policy_sound user d =
-      test_sound K (secadm C user) _ (λ _. test_sound K (when (is_some (policy_named C d.name)) (refusals.Exists d.name)) _ (λ new. test_sound K (when (nat_lt 16 (length d.components)) (refusals.Limit limits.Components 16)) _ (λ _. test_sound K (components_refusal C [] d.components) _
-      (λ e. done_sound K _ T (keys.Policy d.name ∷ []) (put_is_sound (is_new _ _ new) (all_components [] d.components e))))))
+  pub create_policy_sound : (user : List ℕ) (d : PolicyDef) → IsFolded d.name → LeavesSound K (create_policy C T user d)
+  create_policy_sound user d folded =
+      test_sound K (secadm C user) _ (λ _. test_sound K (when (is_some (policy_named C d.name)) (refusals.Exists d.name)) _ (λ new. test_sound K (when (nat_lt 16 (length d.components)) (refusals.Limit limits.Components 16)) _ (λ few. test_sound K (components_refusal C [] d.components) _
+      (λ e. done_sound K _ T (keys.Policy d.name ∷ []) (put_is_sound (not_more 16 _ (is_new _ _ few)) (is_new _ _ new) (all_components [] d.components e))))))
     where
       x : Policy
       x = new_policy C d
@@ -304,17 +327,20 @@ module _ (K : Checks) (steady : IsSteady K) (C : Cat) (T : Tables) (s : IsSound 
       there : (m : List ℕ) → HasPolicy C m → HasPolicy (put_policy x C) m
       there m h = there_put (λ (y : Policy). y.name) x C.policies m h
 
-      put_is_sound : is_some (policy_named C d.name) ≡ false → AllByRecursion (HasComponent C) d.components × AllZip (StandsUnder C) d.components (filter_map (definition_named C) d.components) → IsSound K (put_policy x C)
-      put_is_sound new made =
+      put_is_sound : length d.components ≤ 16 → is_some (policy_named C d.name) ≡ false → AllByRecursion (HasComponent C) d.components × AllZip (StandsUnder C) d.components (filter_map (definition_named C) d.components) → IsSound K (put_policy x C)
+      put_is_sound few new made =
           let D : Cat = put_policy x C in
           let p : Parts K C = apart K C s in
           together K D (record {
             one_each = record { tables = p.one_each.tables; policies = different_put (λ (y : Policy). y.name) x C.policies p.one_each.policies; components = p.one_each.components; users = p.one_each.users; roles = p.one_each.roles };
+            few = p.few;
+            made = p.made;
             stored = p.stored;
-            tables = tables_move K C p D (reads_there K C p steady D (λ n _. refl) (same new) (λ n _. refl)) (λ n z. z) there (labels_here new);
+            tables = tables_move K C p D
+                (reads_there K C p steady D (all_put (λ (y : Policy). IsFolded y.name) (is_policy d.name) x C.policies (folded_of K C p) folded) (λ n _. refl) (same new) (λ n _. refl)) (λ n z. z) there (labels_here new) (λ n _ z. z);
             policies = all_put (PolicyIsSound D) (is_policy d.name) x C.policies
-                (all_follow (PolicyIsSound C) (PolicyIsSound D) (λ y i. record { components = i.components; labels = i.labels; shape = record { shape = i.shape.shape; labels = i.shape.labels } }) C.policies p.policies)
-                (record { components = made.0; labels = refl; shape = record { shape = made.1; labels = tt } });
+                (all_follow (PolicyIsSound C) (PolicyIsSound D) (λ y i. record { folded = i.folded; few = i.few; components = i.components; labels = i.labels; shape = record { shape = i.shape.shape; labels = i.shape.labels } }) C.policies p.policies)
+                (record { folded = folded; few = few; components = made.0; labels = refl; shape = record { shape = made.1; labels = tt } });
             users = all_follow (UserIsSound C) (UserIsSound D)
                 (λ y i. user_moves C D (λ n z. z) y i i.records.roles (all_follow (λ (h : Holding). HasPolicy C h.policy) (λ (h : Holding). HasPolicy D h.policy) (λ h z. there h.policy z) y.held i.records.held)
                 (all_follow (HoldsLabels C) (HoldsLabels D) (λ h j. record { read = given_label new h.policy h.read j.read; write = given_label new h.policy h.write j.write }) y.held i.held)) C.users p.users;

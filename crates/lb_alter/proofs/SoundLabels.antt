@@ -22,17 +22,19 @@ use Rattle.lb_rows.specs.Lists.{without}
 use Rattle.lb_cat.specs.Catalog.{Cat, Table, Policy, User, policy_named, label_named, is_label, is_policy, is_among, put_policy}
 use Rattle.lb_cat.specs.Holdings.{is_same_name, no_holding, holds_label}
 use Rattle.lb_names.specs.Mentions.{Mentions, table, policy, label, is_label_mention}
-use Rattle.lb_alter.specs.Stored.{Checks, mentioned_in, calls_label}
-use Rattle.lb_alter.specs.Refusing.{when, secadm}
-use Rattle.lb_alter.specs.ChangeTable.{has_label, policy_of, in_use}
 use Rattle.lb_alter.specs.ChangeLabel.{has_policy, table_name, user_name, parts_refusal, part_for, part_of, listed_for, label_parts, create_label, holds, is_secured_with, secures_with, drop_label}
-use Rattle.lb_alter.specs.Sound.{AreDifferent, are_different, IfGiven, HasPolicy, HasDifferentLabels, IsPolicyLabel, ColumnBelongs, LabelsBelong, HoldsLabels, HeldLabelsAreThere, StandsUnder, IsSound}
-use Rattle.lb_alter.specs.Laws.{StaysNamed, IsSteady}
-use Rattle.lb_alter.proofs.SoundUsers.{UserIsSound, LeavesSound, test_sound, done_sound, all_put, all_filter, all_follow, all_found, all_append, different_put, and_left, and_right, not_so, both}
+use Rattle.lb_alter.specs.ChangeTable.{has_label, policy_of, in_use}
+use Rattle.lb_alter.specs.Labelled.{IsPolicyLabel, ColumnBelongs, LabelsBelong, HoldsLabels, HeldLabelsAreThere, StandsUnder}
+use Rattle.lb_alter.specs.Named.{AreDifferent, are_different, IfGiven, HasPolicy, HasDifferentLabels}
+use Rattle.lb_alter.specs.Refusing.{when, secadm}
+use Rattle.lb_alter.specs.Sound.{IsSound}
+use Rattle.lb_alter.specs.Steady.{StaysNamed, IsSteady}
+use Rattle.lb_alter.specs.Stored.{Checks, mentioned_in, calls_label}
 use Rattle.lb_alter.proofs.SoundGrants.{different_filter, found_then}
-use Rattle.lb_alter.proofs.SoundParts.{Stands, InPermissions, InMasks, stored_apart, TableIsSound, PolicyIsSound, Parts, apart, together, Reads, stored_moves}
-use Rattle.lb_alter.proofs.SoundTables.{Always, put_case, there_put, there_without, stands_follow, permissions_follow, masks_follow, belonging_follows, user_moves}
 use Rattle.lb_alter.proofs.SoundKinds.{none_found, not_in_use, is_new}
+use Rattle.lb_alter.proofs.SoundParts.{Stands, InPermissions, InMasks, stored_apart, TableIsSound, PolicyIsSound, Parts, apart, together, Reads, stored_moves, Sources}
+use Rattle.lb_alter.proofs.SoundTables.{Always, put_case, there_put, there_without, stands_follow, permissions_follow, masks_follow, belonging_follows, user_moves, sources_follow}
+use Rattle.lb_alter.proofs.SoundUsers.{UserIsSound, LeavesSound, test_sound, done_sound, all_put, all_filter, all_follow, all_found, all_append, different_put, and_left, and_right, not_so, both}
 use Rattle.lb_alter.proofs.Untouched.{or_left, or_right, turned, named_there}
 
 -- ---- lists
@@ -145,8 +147,8 @@ module _ (K : Checks) (steady : IsSteady K) (C : Cat) (T : Tables) (s : IsSound 
 
   labels_reads : Reads K C Relabelled Always (StaysNamed p Other)
   labels_reads = record {
-    condition = λ on c _ g q r. steady.relabels C p Other on c there (record { name = refl; components = refl; shape = refl }) g q r;
-    mask = λ on ty e _ g q r. steady.relabels_mask C p Other on ty e there (record { name = refl; components = refl; shape = refl }) g q r;
+    condition = λ on c _ g _ r. steady.relabels C p Other on c there (record { name = refl; components = refl; shape = refl }) g r;
+    mask = λ on ty e _ g _ r. steady.relabels_mask C p Other on ty e there (record { name = refl; components = refl; shape = refl }) g r;
   }
 
   table_relabelled : (t : Table) → AllByRecursion (StaysNamed p Other) (mentioned_in t) → LabelsBelong Relabelled t → TableIsSound K C t → TableIsSound K Relabelled t
@@ -154,9 +156,10 @@ module _ (K : Checks) (steady : IsSteady K) (C : Cat) (T : Tables) (s : IsSound 
       let r : InPermissions (StaysNamed p Other) t.permissions × InMasks (StaysNamed p Other) t.masks = stored_apart (StaysNamed p Other) t g in
       record {
         policy = given t.policy h.policy;
-        permissions = permissions_follow (Stands C) (Stands Relabelled) (stands_follow C Relabelled (λ n z. z) policy_stays) t.permissions h.permissions;
-        masks = masks_follow (Stands C) (Stands Relabelled) (stands_follow C Relabelled (λ n z. z) policy_stays) t.masks h.masks;
+        permissions = permissions_follow (Sources C t.name) (Sources Relabelled t.name) (sources_follow C Relabelled (λ n z. z) policy_stays (λ n _ z. z) t.name) t.permissions h.permissions;
+        masks = masks_follow (Sources C t.name) (Sources Relabelled t.name) (sources_follow C Relabelled (λ n z. z) policy_stays (λ n _ z. z) t.name) t.masks h.masks;
         columns = h.columns;
+        few = h.few;
         label_columns = h.label_columns;
         belonging = b;
         stored = stored_moves K C Relabelled Always (StaysNamed p Other) labels_reads t tt r.0 r.1 h.stored;
@@ -172,11 +175,13 @@ module _ (K : Checks) (steady : IsSteady K) (C : Cat) (T : Tables) (s : IsSound 
       let old : PolicyIsSound C p = all_found (PolicyIsSound C) (is_policy p.name) C.policies p q.policies there in
       together K Relabelled (record {
         one_each = record { tables = q.one_each.tables; policies = different_put (λ (x : Policy). x.name) Other C.policies q.one_each.policies; components = q.one_each.components; users = q.one_each.users; roles = q.one_each.roles };
+        few = q.few;
+        made = q.made;
         stored = q.stored;
         tables = tables;
         policies = all_put (PolicyIsSound Relabelled) (is_policy p.name) Other C.policies
-            (all_follow (PolicyIsSound C) (PolicyIsSound Relabelled) (λ x i. record { components = i.components; labels = i.labels; shape = record { shape = i.shape.shape; labels = i.shape.labels } }) C.policies q.policies)
-            (record { components = old.components; labels = different; shape = record { shape = old.shape.shape; labels = labels } });
+            (all_follow (PolicyIsSound C) (PolicyIsSound Relabelled) (λ x i. record { folded = i.folded; few = i.few; components = i.components; labels = i.labels; shape = record { shape = i.shape.shape; labels = i.shape.labels } }) C.policies q.policies)
+            (record { folded = old.folded; few = old.few; components = old.components; labels = different; shape = record { shape = old.shape.shape; labels = labels } });
         users = users_move C.users held q.users;
       })
     where
@@ -209,7 +214,7 @@ module _ (K : Checks) (steady : IsSteady K) (C : Cat) (T : Tables) (s : IsSound 
         (all_follow (TableIsSound K C) (TableIsSound K Relabelled) (λ t h. table_relabelled t (named_more (mentioned_in t)) (belonging_follows C Relabelled t (here_more t.policy) h.belonging) h) C.tables q.tables)
         (all_follow (UserIsSound C) (HeldLabelsAreThere Relabelled) (λ u h. all_follow (HoldsLabels C) (HoldsLabels Relabelled) (λ x i. record { read = given_more x.policy x.read i.read; write = given_more x.policy x.write i.write }) u.held h.held) C.users q.users)
 
-by_own_policy : (C : Cat) (n : List ℕ) (p : Policy) → policy_named C n ≡ Some p → policy_named C p.name ≡ Some p
+pub by_own_policy : (C : Cat) (n : List ℕ) (p : Policy) → policy_named C n ≡ Some p → policy_named C p.name ≡ Some p
 by_own_policy C n p e = subst (λ (m : List ℕ). policy_named C m ≡ Some p) (sym (named_there (λ (x : Policy). x.name) n C.policies p e)) e
 
 module _ (K : Checks) (steady : IsSteady K) (C : Cat) (T : Tables) (s : IsSound K C) where

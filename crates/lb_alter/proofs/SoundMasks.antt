@@ -17,21 +17,24 @@ use Rattle.lb_rows.specs.Tables.{Tables}
 use Rattle.lb_rows.specs.Lists.{put}
 use Rattle.lb_cat.specs.Catalog.{Cat, Table, table_named, is_table, is_column, is_mask, put_table}
 use Rattle.lb_names.specs.Mentions.{in_expr, tables_in, policies_in}
-use Rattle.lb_alter.specs.Stored.{Checks}
-use Rattle.lb_alter.specs.Refusing.{when, secadm}
+use Rattle.lb_alter.specs.ChangeControl.{correlation_of, has_permission, source_refusal, is_replaced, takes_mask_name, mask_name, other_mask, type_at, new_mask, with_mask, create_mask, is_bad_source}
 use Rattle.lb_alter.specs.ChangeTable.{exists_already}
-use Rattle.lb_alter.specs.ChangeControl.{correlation_of, has_permission, source_refusal, is_replaced, takes_mask_name, mask_name, other_mask, type_at, new_mask, with_mask, create_mask}
-use Rattle.lb_alter.specs.Sound.{HasTable, HasPolicy, IsPlace, has_mask_twice, TypesAt, IsValidMask, IsSound, called}
-use Rattle.lb_alter.specs.Laws.{KeepsMaskRules, IsWider, IsSteady}
-use Rattle.lb_alter.proofs.SoundUsers.{LeavesSound, test_sound, done_sound, all_put, all_follow, all_append, among_put, different_put}
-use Rattle.lb_alter.proofs.SoundGrants.{found_then}
-use Rattle.lb_alter.proofs.SoundParts.{Stands, named_from, together, table_names}
-use Rattle.lb_alter.proofs.SoundTables.{there_put, stands_follow, Names, names_front, refitted, refitted_wider, refitted_sound, put_wider}
+use Rattle.lb_alter.specs.Columns.{IsPlace, has_mask_twice}
+use Rattle.lb_alter.specs.Named.{HasTable, HasPolicy, IsGoodSource}
+use Rattle.lb_alter.specs.Refusing.{when, secadm}
+use Rattle.lb_alter.specs.Sound.{IsSound}
+use Rattle.lb_alter.specs.Steady.{IsWider, IsSteady}
+use Rattle.lb_alter.specs.Stored.{Checks}
+use Rattle.lb_alter.specs.Valid.{TypesAt, IsValidMask, called, KeepsMaskRules}
 use Rattle.lb_alter.proofs.SoundAlters.{by_own_name}
 use Rattle.lb_alter.proofs.SoundColumns.{none_already}
+use Rattle.lb_alter.proofs.SoundGrants.{found_then}
 use Rattle.lb_alter.proofs.SoundKinds.{is_new, none_found}
 use Rattle.lb_alter.proofs.SoundLabels.{any_none}
-use Rattle.lb_alter.proofs.SoundStored.{all_other, none_does}
+use Rattle.lb_alter.proofs.SoundParts.{Stands, named_from, together, table_names, IsSource, Sources, all_both}
+use Rattle.lb_alter.proofs.SoundStored.{all_other, none_does, no_bad}
+use Rattle.lb_alter.proofs.SoundTables.{there_put, stands_follow, Names, names_front, refitted, refitted_wider, refitted_sound, put_wider, sources_follow, stays_plain}
+use Rattle.lb_alter.proofs.SoundUsers.{LeavesSound, test_sound, done_sound, all_put, all_follow, all_append, among_put, different_put}
 use Rattle.lb_alter.proofs.Untouched.{or_left, or_right, named_there}
 
 -- ---- tests
@@ -112,7 +115,8 @@ module _ (n : List ℕ) (r : MaskRec) where
 
 module _ (K : Checks) (steady : IsSteady K) (C : Cat) (T : Tables) (s : IsSound K C) (d : MaskDef) (t : Table) (e : table_named C d.on.table ≡ Some t) (column : ℕ) (place : column < length t.columns)
     (names_right : K.mask_names C d.on d.value ≡ None) (types_right : K.mask_types C d.on (type_at t column) d.value ≡ None)
-    (taken : AllByRecursion (λ (x : Table). takes_mask_name d column x ≡ false) C.tables) (own : takes_mask_name d column t ≡ false) (alone : other_mask d.name column t ≡ None) where
+    (taken : AllByRecursion (λ (x : Table). takes_mask_name d column x ≡ false) C.tables) (own : takes_mask_name d column t ≡ false) (alone : other_mask d.name column t ≡ None)
+    (good : AllByRecursion (IsGoodSource C t.name) (tables_in (in_expr d.value))) where
   abbrev pub masks_after : List MaskRec
   masks_after = put (is_mask d.name) (new_mask K C column d) t.masks
 
@@ -163,11 +167,13 @@ module _ (K : Checks) (steady : IsSteady K) (C : Cat) (T : Tables) (s : IsSound 
   keeps : KeepsMaskRules K C d.on found_at.column.ty d.value
   keeps = record { names = names_right; types = subst (λ (ty : Ty). K.mask_types C d.on ty d.value ≡ None) found_at.type types_right }
 
-  stands_too : AllByRecursion (Stands After) (in_expr (K.qualified_mask C d.on d.value))
+  stands_too : AllByRecursion (Sources After t.name) (in_expr (K.qualified_mask C d.on d.value))
   stands_too =
       let h : AllByRecursion (HasTable C) (tables_in (in_expr d.value)) × AllByRecursion (HasPolicy C) (policies_in (in_expr d.value)) = steady.stands_mask C d.on found_at.column.ty d.value keeps in
-      subst (AllByRecursion (Stands After)) (sym (steady.mask_mentions C d.on d.value))
-      (all_follow (Stands C) (Stands After) (stands_follow C After (λ n z. there_put (λ (x : Table). x.name) Masked C.tables n z) (λ n z. z)) (in_expr d.value) (named_from (HasTable C) (HasPolicy C) (in_expr d.value) h.0 h.1))
+      subst (AllByRecursion (Sources After t.name)) (sym (steady.mask_mentions C d.on d.value))
+      (all_follow (Sources C t.name) (Sources After t.name)
+      (sources_follow C After (λ n z. there_put (λ (x : Table). x.name) Masked C.tables n z) (λ n z. z) (stays_plain K steady C T s t Masked its_own refl wider) t.name) (in_expr d.value)
+      (named_from (IsSource C t.name) (HasPolicy C) (in_expr d.value) (all_both (HasTable C) (IsGoodSource C t.name) (tables_in (in_expr d.value)) h.0 good) h.1))
 
   first : MaskRec
   first = record { name = []; column = column; correlation = correlation_of d.on; value = K.qualified_mask C d.on d.value; enabled = true }
@@ -177,10 +183,9 @@ module _ (K : Checks) (steady : IsSteady K) (C : Cat) (T : Tables) (s : IsSound 
   is_right =
       let q : IsValidMask K C t first = steady.qualifies_mask C t d.on column found_at.column d.value e found_at.there keeps in
       let ty : TypesAt K C t first (Some found_at.column) = subst (TypesAt K C t first) found_at.there q.types in
-      let w : KeepsMaskRules K After (called t (correlation_of d.on)) found_at.column.ty (K.qualified_mask C d.on d.value)
-      × (K.qualified_mask After (called t (correlation_of d.on)) (K.qualified_mask C d.on d.value) ≡ K.qualified_mask C d.on d.value) =
-      steady.widens_mask C t Masked (called t (correlation_of d.on)) found_at.column.ty (K.qualified_mask C d.on d.value) its_own wider q.qualified (record { names = q.names; types = ty }) in
-      record { names = w.0.names; types = subst (TypesAt K After t (new_mask K C column d)) (sym found_at.there) w.0.types; qualified = w.1 }
+      let w : KeepsMaskRules K After (called t (correlation_of d.on)) found_at.column.ty (K.qualified_mask C d.on d.value) =
+      steady.widens_mask C t Masked (called t (correlation_of d.on)) found_at.column.ty (K.qualified_mask C d.on d.value) its_own wider q.qualified (record { names = q.names; types = ty.0 }) in
+      record { names = w.names; types = subst (TypesAt K After t (new_mask K C column d)) (sym found_at.there) (w.types, ty.1); qualified = q.qualified }
 
   same_column : (ms : List MaskRec) → AllByRecursion (λ (m : MaskRec). (is_mask d.name m && not (is_replaced d column t m)) ≡ false) ms → AllByRecursion (λ (m : MaskRec). is_mask d.name m ≡ true → (m.column == column) ≡ true) ms
   same_column ms h = all_follow _ _ (λ m i. replaced_here (is_mask d.name m) d.replace (is_table d.on.table t) (m.column == column) i) ms h
@@ -195,7 +200,7 @@ module _ (K : Checks) (steady : IsSteady K) (C : Cat) (T : Tables) (s : IsSound 
       (λ h. refitted_sound K After t t.row_control t.column_control t.public t.permissions (put (is_mask d.name) (new_mask K C column d) t.masks)
       (record {
         permissions = h.permissions;
-        masks = all_put (λ (m : MaskRec). AllByRecursion (Stands After) (in_expr m.value)) (is_mask d.name) (new_mask K C column d) t.masks h.masks stands_too;
+        masks = all_put (λ (m : MaskRec). AllByRecursion (Sources After t.name) (in_expr m.value)) (is_mask d.name) (new_mask K C column d) t.masks h.masks stands_too;
         places = all_put (λ (m : MaskRec). IsPlace t m.column) (is_mask d.name) (new_mask K C column d) t.masks h.columns.masked place;
         once = twice_put d.name (new_mask K C column d) t.masks h.label_columns.masks (same_column t.masks (any_none _ t.masks (or_right (has_permission d.name t) _ own)))
             (other_column t.masks (none_found _ t.masks (mapped_none _ alone)));
@@ -209,8 +214,8 @@ module _ (K : Checks) (steady : IsSteady K) (C : Cat) (T : Tables) (s : IsSound 
       test_sound K (secadm C user) _ (λ _. found_then K d.on.table (table_named C d.on.table) _ (λ t e. found_then K d.column (position (is_column d.column) t.columns) _
       (λ column at. test_sound K (when (list_any (takes_mask_name d column) C.tables) (refusals.Exists d.name)) _
       (λ free. test_sound K (exists_already (other_mask d.name column t)) _ (λ alone. test_sound K (K.mask_names C d.on d.value) _ (λ names. test_sound K (source_refusal C d.name t.name (in_expr d.value)) _
-      (λ _. test_sound K (K.mask_types C d.on (type_at t column) d.value) _
+      (λ good. test_sound K (K.mask_types C d.on (type_at t column) d.value) _
       (λ types.
       let taken : AllByRecursion (λ (x : Table). takes_mask_name d column x ≡ false) C.tables = any_none (takes_mask_name d column) C.tables (is_new _ _ free) in
       done_sound K (put_table (with_mask (new_mask K C column d) t) C) T (keys.Table t.name ∷ [])
-      (masked_sound K steady C T s d t e column (at_place (is_column d.column) t.columns column at) names types taken (none_does (takes_mask_name d column) (is_table d.on.table) C.tables t taken e) (none_already _ alone))))))))))
+      (masked_sound K steady C T s d t e column (at_place (is_column d.column) t.columns column at) names types taken (none_does (takes_mask_name d column) (is_table d.on.table) C.tables t taken e) (none_already _ alone) (none_found (is_bad_source C t.name) (tables_in (in_expr d.value)) (no_bad d.name _ good)))))))))))

@@ -1,5 +1,5 @@
 -- Soundness record by record, and what carries it from one catalogue to another.
-use Rattle.std.proofs.Common.{◌≡◌, refl, sym, ap, subst, ◌∙◌, ℕ, List, [], ◌∷◌, ◌++◌, map, Option, Some, None}
+use Rattle.std.proofs.Common.{◌≡◌, refl, sym, ap, subst, ◌∙◌, ℕ, List, [], ◌∷◌, ◌++◌, map, Option, Some, None, length, true, ◌≤◌}
 use Rattle.std.specs.Prelude.{filter_map, slice_get}
 use Rattle.std.specs.List.{AllByRecursion, flat_map, cons_option}
 use Rattle.lb_base.specs.declared.key.Key.TheVariants as keys
@@ -12,12 +12,18 @@ use Rattle.lb_cat.specs.declared.catalog.PermissionRec.{PermissionRec}
 use Rattle.lb_cat.specs.declared.catalog.MaskRec.{MaskRec}
 use Rattle.lb_cat.specs.Catalog.{Cat, Table, Policy, User, table_named, policy_named, component_named}
 use Rattle.lb_names.specs.Mentions.{Mention, Mentions, table, policy, label, tables_in, policies_in, in_cond, in_expr}
-use Rattle.lb_alter.specs.Stored.{Checks, Stored, stored_in, stored_name, stored_permission, stored_mask, mentions_of, mentioned_in}
+use Rattle.lb_alter.specs.Columns.{HasItsColumns, HasOneLabelColumn, HasFewColumns}
 use Rattle.lb_alter.specs.Deps.{in_table, in_tables, tables_for, policy_of_table, is_key_name, policies_for, components_of, components_for}
-use Rattle.lb_alter.specs.Sound.{AreDifferent, IfGiven, HasTable, HasPolicy, HasOneOfEachName, TableNamesRecords, PolicyNamesRecords, UserNamesRecords, HasItsColumns, HasOneLabelColumn, HasDifferentLabels, HasOneEntryEach, LabelsBelong, HeldLabelsAreThere, HasItsShape, IsValid, TypesAt, IsValidMask, StoresValid, HasNoEmptyEntry, IsSound, called}
-use Rattle.lb_alter.specs.Laws.{SameRecord, SameOn, SameFor, KeepsRules, KeepsMaskRules, stored_deps, IsSteady}
+use Rattle.lb_alter.specs.Frame.{SameRecord, SameOn}
+use Rattle.lb_alter.specs.Labelled.{LabelsBelong, HeldLabelsAreThere, HasItsShape}
+use Rattle.lb_alter.specs.Named.{AreDifferent, IfGiven, HasTable, HasPolicy, HasOneOfEachName, TableNamesRecords, PolicyNamesRecords, UserNamesRecords, HasDifferentLabels, HasOneEntryEach, HasNoEmptyEntry, HasFoldedNames, IsGoodSource, ReadsGoodSources}
+use Rattle.lb_alter.specs.Sound.{IsSound, HasFewComponents, IsWellMade}
+use Rattle.lb_alter.specs.Steady.{stored_deps, IsSteady}
+use Rattle.lb_alter.specs.Stored.{Checks, Stored, stored_in, stored_name, stored_permission, stored_mask, mentions_of, mentioned_in}
+use Rattle.lb_alter.specs.Valid.{IsValid, TypesAt, IsValidMask, StoresValid, called, KeepsRules, KeepsMaskRules}
 use Rattle.lb_alter.proofs.SoundUsers.{UserIsSound, all_append, all_filter, all_follow, once_all}
 use Rattle.lb_alter.proofs.Steady.{all_front, all_behind}
+use Rattle.lb_base.specs.Names.{IsFolded}
 
 -- ---- mentions
 
@@ -29,6 +35,22 @@ Named T P (label p l) = P p
 
 abbrev pub Stands : Cat → Mention → Type 0
 Stands C = Named (HasTable C) (HasPolicy C)
+
+-- a table that may be read by a permission or a mask of the table of that name
+abbrev pub IsSource : Cat → List ℕ → List ℕ → Type 0
+IsSource C own n = HasTable C n × IsGoodSource C own n
+
+abbrev pub Sources : Cat → List ℕ → Mention → Type 0
+Sources C own = Named (IsSource C own) (HasPolicy C)
+
+pub source_stands : (C : Cat) (own : List ℕ) (m : Mention) → Sources C own m → Stands C m
+source_stands C own (table n) h = h.0
+source_stands C own (policy p) h = h
+source_stands C own (label p l) h = h
+
+pub all_both : {A : Type 0} (P Q : A → Type 0) (xs : List A) → AllByRecursion P xs → AllByRecursion Q xs → AllByRecursion (λ (x : A). P x × Q x) xs
+all_both P Q [] h i = tt
+all_both P Q (x ∷ xs) h i = ((h.0, i.0), all_both P Q xs h.1 i.1)
 
 module _ (T P : List ℕ → Type 0) where
   pub named_from : (ms : Mentions) → AllByRecursion T (tables_in ms) → AllByRecursion P (policies_in ms) → AllByRecursion (Named T P) ms
@@ -118,37 +140,44 @@ names_flat (t ∷ ts) =
 
 pub record TableIsSound (K : Checks) (C : Cat) (t : Table) : Type 0 where
   pub policy : IfGiven (HasPolicy C) t.policy
-  pub permissions : InPermissions (Stands C) t.permissions
-  pub masks : InMasks (Stands C) t.masks
+  pub permissions : InPermissions (Sources C t.name) t.permissions
+  pub masks : InMasks (Sources C t.name) t.masks
   pub columns : HasItsColumns t
+  pub few : HasFewColumns t
   pub label_columns : HasOneLabelColumn t
   pub belonging : LabelsBelong C t
   pub stored : StoresValid K C t
 
 pub record PolicyIsSound (C : Cat) (p : Policy) : Type 0 where
+  pub folded : IsFolded p.name
+  pub few : HasFewComponents p
   pub components : PolicyNamesRecords C p
   pub labels : HasDifferentLabels p
   pub shape : HasItsShape C p
 
 pub record Parts (K : Checks) (C : Cat) : Type 0 where
   pub one_each : HasOneOfEachName C
+  pub few : length C.tables ≤ 64
+  pub made : AllByRecursion IsWellMade C.components
   pub stored : AreDifferent (flat_map table_names C.tables)
   pub tables : AllByRecursion (TableIsSound K C) C.tables
   pub policies : AllByRecursion (PolicyIsSound C) C.policies
   pub users : AllByRecursion (UserIsSound C) C.users
 
 module _ (K : Checks) (C : Cat) where
-  tables_apart : (ts : List Table) → AllByRecursion (TableNamesRecords C) ts → AllByRecursion HasItsColumns ts → AllByRecursion HasOneLabelColumn ts
+  tables_apart : (ts : List Table) → AllByRecursion (TableNamesRecords C) ts → AllByRecursion (ReadsGoodSources C) ts → AllByRecursion HasItsColumns ts → AllByRecursion HasFewColumns ts → AllByRecursion HasOneLabelColumn ts
       → AllByRecursion (LabelsBelong C) ts → AllByRecursion (StoresValid K C) ts → AllByRecursion (TableIsSound K C) ts
-  tables_apart [] n c l b s = tt
-  tables_apart (t ∷ ts) n c l b s =
-      let r : InPermissions (Stands C) t.permissions × InMasks (Stands C) t.masks =
-      stored_apart (Stands C) t (named_from (HasTable C) (HasPolicy C) (mentioned_in t) n.0.sources n.0.calls) in
-      (record { policy = n.0.policy; permissions = r.0; masks = r.1; columns = c.0; label_columns = l.0; belonging = b.0; stored = s.0 }, tables_apart ts n.1 c.1 l.1 b.1 s.1)
+  tables_apart [] n g c f l b s = tt
+  tables_apart (t ∷ ts) n g c f l b s =
+      let r : InPermissions (Sources C t.name) t.permissions × InMasks (Sources C t.name) t.masks =
+      stored_apart (Sources C t.name) t
+      (named_from (IsSource C t.name) (HasPolicy C) (mentioned_in t) (all_both (HasTable C) (IsGoodSource C t.name) (tables_in (mentioned_in t)) n.0.sources g.0) n.0.calls) in
+      (record { policy = n.0.policy; permissions = r.0; masks = r.1; columns = c.0; few = f.0; label_columns = l.0; belonging = b.0; stored = s.0 }, tables_apart ts n.1 g.1 c.1 f.1 l.1 b.1 s.1)
 
-  policies_apart : (ps : List Policy) → AllByRecursion (PolicyNamesRecords C) ps → AllByRecursion HasDifferentLabels ps → AllByRecursion (HasItsShape C) ps → AllByRecursion (PolicyIsSound C) ps
-  policies_apart [] n l s = tt
-  policies_apart (p ∷ ps) n l s = (record { components = n.0; labels = l.0; shape = s.0 }, policies_apart ps n.1 l.1 s.1)
+  policies_apart : (ps : List Policy) → HasFoldedNames (record C { policies = ps }) → AllByRecursion HasFewComponents ps → AllByRecursion (PolicyNamesRecords C) ps → AllByRecursion HasDifferentLabels ps → AllByRecursion (HasItsShape C) ps
+      → AllByRecursion (PolicyIsSound C) ps
+  policies_apart [] f c n l s = tt
+  policies_apart (p ∷ ps) f c n l s = (record { folded = f.0; few = c.0; components = n.0; labels = l.0; shape = s.0 }, policies_apart ps f.1 c.1 n.1 l.1 s.1)
 
   users_apart : (us : List User) → AllByRecursion (UserNamesRecords C) us → AllByRecursion HasOneEntryEach us → AllByRecursion (HeldLabelsAreThere C) us → AllByRecursion HasNoEmptyEntry us → AllByRecursion (UserIsSound C) us
   users_apart [] n o h e = tt
@@ -157,20 +186,39 @@ module _ (K : Checks) (C : Cat) where
   pub apart : IsSound K C → Parts K C
   apart s = record {
     one_each = s.one_each;
+    few = s.limits.tables;
+    made = s.limits.components;
     stored = subst AreDifferent (names_flat C.tables) s.names.stored;
-    tables = tables_apart C.tables s.records.tables s.columns s.label_columns s.belonging s.stored;
-    policies = policies_apart C.policies s.records.policies s.names.labels s.shapes;
+    tables = tables_apart C.tables s.records.tables s.sources s.columns s.limits.columns s.label_columns s.belonging s.stored;
+    policies = policies_apart C.policies s.folded s.limits.policies s.records.policies s.names.labels s.shapes;
     users = users_apart C.users s.records.users s.names.users s.held s.entries;
   }
 
+  sources_of : (t : Table) → TableIsSound K C t → AllByRecursion (Sources C t.name) (mentioned_in t)
+  sources_of t h = stored_together (Sources C t.name) t h.permissions h.masks
+
   names_of : (t : Table) → TableIsSound K C t → TableNamesRecords C t
   names_of t h =
-      let all : AllByRecursion (Stands C) (mentioned_in t) = stored_together (Stands C) t h.permissions h.masks in
+      let all : AllByRecursion (Stands C) (mentioned_in t) = all_follow (Sources C t.name) (Stands C) (source_stands C t.name) (mentioned_in t) (sources_of t h) in
       record { policy = h.policy; sources = named_tables (HasTable C) (HasPolicy C) (mentioned_in t) all; calls = named_policies (HasTable C) (HasPolicy C) (mentioned_in t) all }
+
+  good_of : (t : Table) → TableIsSound K C t → ReadsGoodSources C t
+  good_of t h = all_follow (IsSource C t.name) (IsGoodSource C t.name) (λ n i. i.1) (tables_in (mentioned_in t)) (named_tables (IsSource C t.name) (HasPolicy C) (mentioned_in t) (sources_of t h))
+
+  pub folded_of : Parts K C → HasFoldedNames C
+  folded_of p = all_follow (PolicyIsSound C) (λ (x : Policy). IsFolded x.name) (λ x i. i.folded) C.policies p.policies
 
   pub together : Parts K C → IsSound K C
   together p = record {
     one_each = p.one_each;
+    folded = folded_of p;
+    sources = all_follow (TableIsSound K C) (ReadsGoodSources C) good_of C.tables p.tables;
+    limits = record {
+      tables = p.few;
+      columns = all_follow (TableIsSound K C) HasFewColumns (λ x h. h.few) C.tables p.tables;
+      policies = all_follow (PolicyIsSound C) HasFewComponents (λ x h. h.few) C.policies p.policies;
+      components = p.made;
+    };
     records = record {
       tables = all_follow (TableIsSound K C) (TableNamesRecords C) names_of C.tables p.tables;
       policies = all_follow (PolicyIsSound C) (PolicyNamesRecords C) (λ x h. h.components) C.policies p.policies;
@@ -194,34 +242,28 @@ module _ (K : Checks) (C : Cat) where
 
 -- conditions on tables of this kind, which name only such things, stay right
 pub record Reads (K : Checks) (C D : Cat) (Own : List ℕ → Type 0) (G : Mention → Type 0) : Type 0 where
-  pub condition : (on : Tab) (c : Cond) → Own on.table → AllByRecursion G (in_cond c) → K.qualified_condition C on c ≡ c → KeepsRules K C on c
-      → KeepsRules K D on c × (K.qualified_condition D on c ≡ c)
-  pub mask : (on : Tab) (ty : Ty) (e : Expr) → Own on.table → AllByRecursion G (in_expr e) → K.qualified_mask C on e ≡ e → KeepsMaskRules K C on ty e
-      → KeepsMaskRules K D on ty e × (K.qualified_mask D on e ≡ e)
+  pub condition : (on : Tab) (c : Cond) → Own on.table → AllByRecursion G (in_cond c) → K.is_qualified c ≡ true → KeepsRules K C on c → KeepsRules K D on c
+  pub mask : (on : Tab) (ty : Ty) (e : Expr) → Own on.table → AllByRecursion G (in_expr e) → K.is_qualified_mask e ≡ true → KeepsMaskRules K C on ty e → KeepsMaskRules K D on ty e
 
 module _ (K : Checks) (C D : Cat) (Own : List ℕ → Type 0) (G : Mention → Type 0) (r : Reads K C D Own G) (t : Table) (own : Own t.name) where
   permissions_move : (ps : List PermissionRec) → InPermissions G ps → AllByRecursion (IsValid K C t) ps → AllByRecursion (IsValid K D t) ps
   permissions_move [] g h = tt
   permissions_move (p ∷ ps) g h =
-      let x : KeepsRules K D (called t p.correlation) p.condition × (K.qualified_condition D (called t p.correlation) p.condition ≡ p.condition) =
-      r.condition (called t p.correlation) p.condition own g.0 h.0.qualified (record { names = h.0.names; types = h.0.types }) in
-      (record { names = x.0.names; types = x.0.types; qualified = x.1 }, permissions_move ps g.1 h.1)
+      let x : KeepsRules K D (called t p.correlation) p.condition = r.condition (called t p.correlation) p.condition own g.0 h.0.qualified (record { names = h.0.names; types = h.0.types }) in
+      (record { names = x.names; types = x.types; qualified = h.0.qualified }, permissions_move ps g.1 h.1)
 
-  type_moves : (m : MaskRec) (c : Option ColumnRec) → AllByRecursion G (in_expr m.value) → K.qualified_mask C (called t m.correlation) m.value ≡ m.value
-      → K.mask_names C (called t m.correlation) m.value ≡ None → TypesAt K C t m c
-      → (K.mask_names D (called t m.correlation) m.value ≡ None) × (TypesAt K D t m c × (K.qualified_mask D (called t m.correlation) m.value ≡ m.value))
+  type_moves : (m : MaskRec) (c : Option ColumnRec) → AllByRecursion G (in_expr m.value) → K.is_qualified_mask m.value ≡ true → K.mask_names C (called t m.correlation) m.value ≡ None → TypesAt K C t m c
+      → (K.mask_names D (called t m.correlation) m.value ≡ None) × TypesAt K D t m c
   type_moves m None g q h i = absurd i
   type_moves m (Some c) g q h i =
-      let x : KeepsMaskRules K D (called t m.correlation) c.ty m.value × (K.qualified_mask D (called t m.correlation) m.value ≡ m.value) =
-      r.mask (called t m.correlation) c.ty m.value own g q (record { names = h; types = i }) in
-      (x.0.names, (x.0.types, x.1))
+      let x : KeepsMaskRules K D (called t m.correlation) c.ty m.value = r.mask (called t m.correlation) c.ty m.value own g q (record { names = h; types = i.0 }) in
+      (x.names, (x.types, i.1))
 
   masks_move : (ms : List MaskRec) → InMasks G ms → AllByRecursion (IsValidMask K C t) ms → AllByRecursion (IsValidMask K D t) ms
   masks_move [] g h = tt
   masks_move (m ∷ ms) g h =
-      let x : (K.mask_names D (called t m.correlation) m.value ≡ None) × (TypesAt K D t m (slice_get t.columns m.column) × (K.qualified_mask D (called t m.correlation) m.value ≡ m.value)) =
-      type_moves m (slice_get t.columns m.column) g.0 h.0.qualified h.0.names h.0.types in
-      (record { names = x.0; types = x.1.0; qualified = x.1.1 }, masks_move ms g.1 h.1)
+      let x : (K.mask_names D (called t m.correlation) m.value ≡ None) × TypesAt K D t m (slice_get t.columns m.column) = type_moves m (slice_get t.columns m.column) g.0 h.0.qualified h.0.names h.0.types in
+      (record { names = x.0; types = x.1; qualified = h.0.qualified }, masks_move ms g.1 h.1)
 
   pub stored_moves : InPermissions G t.permissions → InMasks G t.masks → StoresValid K C t → StoresValid K D t
   stored_moves g i h = record { permissions = permissions_move t.permissions g h.permissions; masks = masks_move t.masks i h.masks }
@@ -276,13 +318,8 @@ module _ (C D : Cat) (T P Q : List ℕ → Type 0)
       (all_map Q (SameRecord C D) (λ n. keys.Component n) components (components_for C (table on.table ∷ ms))
       (all_flat P Q (λ n. components_of (policy_named C n)) made (policies_for C (table on.table ∷ ms)) (policies_for_named (table on.table ∷ ms) all)))))
 
-  same_for : (on : Tab) (ms : Mentions) → T on.table → AllByRecursion (Named T P) ms → SameFor C D on ms
-  same_for on ms own h = (deps_kept on ms own h, all_follow P (λ (n : List ℕ). policy_named D n ≡ policy_named C n) policies (policies_in ms) (named_policies T P ms h))
-
-  pub reads_kept : (K : Checks) → IsSteady K → Reads K C D T (Named T P)
-  reads_kept K steady = record {
-    condition = λ on c own g q r.
-        (steady.reads C D on c (same_for on (in_cond c) own g) r, steady.same C D on c (same_for on (in_cond c) own g) ∙ q);
-    mask = λ on ty e own g q r.
-        (steady.reads_mask C D on ty e (same_for on (in_expr e) own g) r, steady.same_mask C D on e (same_for on (in_expr e) own g) ∙ q);
+  pub reads_kept : (K : Checks) → IsSteady K → HasFoldedNames C → HasFoldedNames D → Reads K C D T (Named T P)
+  reads_kept K steady f g = record {
+    condition = λ on c own h q r. steady.reads C D on c f g (deps_kept on (in_cond c) own h) r;
+    mask = λ on ty e own h q r. steady.reads_mask C D on ty e f g (deps_kept on (in_expr e) own h) r;
   }

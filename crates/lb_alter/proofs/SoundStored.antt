@@ -1,5 +1,5 @@
 -- Permissions that are made or replaced leave a sound catalogue sound.
-use Rattle.std.proofs.Common.{◌≡◌, refl, sym, subst, ℕ, Bool, true, false, cond, not, ◌&&◌, List, [], ◌∷◌, map, Some}
+use Rattle.std.proofs.Common.{◌≡◌, refl, sym, subst, ℕ, Bool, true, false, cond, not, ◌&&◌, List, [], ◌∷◌, map, Option, Some, None}
 use Rattle.std.specs.Prelude.{find}
 use Rattle.std.specs.List.{AllByRecursion, list_any}
 use Rattle.std.specs.Str.{bytes_eq}
@@ -12,18 +12,20 @@ use Rattle.lb_rows.specs.Tables.{Tables}
 use Rattle.lb_rows.specs.Lists.{put}
 use Rattle.lb_cat.specs.Catalog.{Cat, Table, table_named, is_table, is_permission, put_table}
 use Rattle.lb_names.specs.Mentions.{in_cond, tables_in, policies_in}
-use Rattle.lb_alter.specs.Stored.{Checks}
+use Rattle.lb_alter.specs.ChangeControl.{correlation_of, has_permission, has_mask, source_refusal, takes_permission_name, new_permission, with_permission, create_permission, bad_source_of, is_bad_source}
+use Rattle.lb_alter.specs.Named.{HasTable, HasPolicy, IsGoodSource}
 use Rattle.lb_alter.specs.Refusing.{when, secadm}
-use Rattle.lb_alter.specs.ChangeControl.{correlation_of, has_permission, has_mask, source_refusal, takes_permission_name, new_permission, with_permission, create_permission}
-use Rattle.lb_alter.specs.Sound.{HasTable, HasPolicy, IsValid, IsSound, called}
-use Rattle.lb_alter.specs.Laws.{KeepsRules, IsSteady}
-use Rattle.lb_alter.proofs.SoundUsers.{LeavesSound, test_sound, done_sound, all_put, all_follow, all_append, among_put, different_put}
-use Rattle.lb_alter.proofs.SoundGrants.{found_then}
-use Rattle.lb_alter.proofs.SoundParts.{Stands, named_from, together, table_names}
-use Rattle.lb_alter.proofs.SoundTables.{there_put, stands_follow, Names, names_behind, refitted, refitted_wider, refitted_sound, put_wider}
+use Rattle.lb_alter.specs.Sound.{IsSound}
+use Rattle.lb_alter.specs.Steady.{IsSteady, IsWider}
+use Rattle.lb_alter.specs.Stored.{Checks}
+use Rattle.lb_alter.specs.Valid.{IsValid, called, KeepsRules}
 use Rattle.lb_alter.proofs.SoundAlters.{by_own_name}
-use Rattle.lb_alter.proofs.SoundKinds.{is_new}
+use Rattle.lb_alter.proofs.SoundGrants.{found_then}
+use Rattle.lb_alter.proofs.SoundKinds.{is_new, none_found}
 use Rattle.lb_alter.proofs.SoundLabels.{any_none}
+use Rattle.lb_alter.proofs.SoundParts.{Stands, named_from, together, table_names, IsSource, Sources, all_both}
+use Rattle.lb_alter.proofs.SoundTables.{there_put, stands_follow, Names, names_behind, refitted, refitted_wider, refitted_sound, put_wider, sources_follow, stays_plain}
+use Rattle.lb_alter.proofs.SoundUsers.{LeavesSound, test_sound, done_sound, all_put, all_follow, all_append, among_put, different_put}
 use Rattle.lb_alter.proofs.Untouched.{or_left, or_right, turned, named_there}
 
 module _ {R : Type 0} (name : R → List ℕ) (n : List ℕ) where
@@ -40,7 +42,8 @@ not_both false b true h i = absurd cc
 not_both false b false h i = refl
 
 module _ (K : Checks) (steady : IsSteady K) (C : Cat) (T : Tables) (s : IsSound K C) (d : PermissionDef) (t : Table) (e : table_named C d.on.table ≡ Some t)
-    (keeps : KeepsRules K C d.on d.condition) (taken : AllByRecursion (λ (x : Table). takes_permission_name d x ≡ false) C.tables) (own : takes_permission_name d t ≡ false) where
+    (keeps : KeepsRules K C d.on d.condition) (taken : AllByRecursion (λ (x : Table). takes_permission_name d x ≡ false) C.tables) (own : takes_permission_name d t ≡ false)
+    (good : AllByRecursion (IsGoodSource C t.name) (tables_in (in_cond d.condition))) where
   p : PermissionRec
   p = new_permission K C d
 
@@ -75,20 +78,23 @@ module _ (K : Checks) (steady : IsSteady K) (C : Cat) (T : Tables) (s : IsSound 
   abbrev pub Allowed : Cat
   Allowed = put_table Permitted C
 
-  named_there_too : AllByRecursion (Stands Allowed) (in_cond (K.qualified_condition C d.on d.condition))
+  wider : IsWider t Permitted
+  wider = refitted_wider t t.row_control t.column_control t.public (put (is_permission d.name) (new_permission K C d) t.permissions) t.masks
+
+  named_there_too : AllByRecursion (Sources Allowed t.name) (in_cond (K.qualified_condition C d.on d.condition))
   named_there_too =
       let h : AllByRecursion (HasTable C) (tables_in (in_cond d.condition)) × AllByRecursion (HasPolicy C) (policies_in (in_cond d.condition)) = steady.stands C d.on d.condition keeps in
-      subst (AllByRecursion (Stands Allowed)) (sym (steady.mentions C d.on d.condition))
-      (all_follow (Stands C) (Stands Allowed) (stands_follow C Allowed (λ n z. there_put (λ (x : Table). x.name) Permitted C.tables n z) (λ n z. z)) (in_cond d.condition) (named_from (HasTable C) (HasPolicy C) (in_cond d.condition) h.0 h.1))
+      subst (AllByRecursion (Sources Allowed t.name)) (sym (steady.mentions C d.on d.condition))
+      (all_follow (Sources C t.name) (Sources Allowed t.name)
+      (sources_follow C Allowed (λ n z. there_put (λ (x : Table). x.name) Permitted C.tables n z) (λ n z. z) (stays_plain K steady C T s t Permitted (by_own_name C d.on.table t e) refl wider) t.name) (in_cond d.condition)
+      (named_from (IsSource C t.name) (HasPolicy C) (in_cond d.condition) (all_both (HasTable C) (IsGoodSource C t.name) (tables_in (in_cond d.condition)) h.0 good) h.1))
 
   is_right : IsValid K Allowed t (new_permission K C d)
   is_right =
       let q : IsValid K C t (record { name = []; correlation = correlation_of d.on; condition = K.qualified_condition C d.on d.condition; enabled = true }) = steady.qualifies C t d.on d.condition e keeps in
-      let w : KeepsRules K Allowed (called t (correlation_of d.on)) (K.qualified_condition C d.on d.condition)
-      × (K.qualified_condition Allowed (called t (correlation_of d.on)) (K.qualified_condition C d.on d.condition) ≡ K.qualified_condition C d.on d.condition) =
-      steady.widens C t Permitted (called t (correlation_of d.on)) (K.qualified_condition C d.on d.condition) (by_own_name C d.on.table t e)
-      (refitted_wider t t.row_control t.column_control t.public (put (is_permission d.name) (new_permission K C d) t.permissions) t.masks) q.qualified (record { names = q.names; types = q.types }) in
-      record { names = w.0.names; types = w.0.types; qualified = w.1 }
+      let w : KeepsRules K Allowed (called t (correlation_of d.on)) (K.qualified_condition C d.on d.condition) =
+      steady.widens C t Permitted (called t (correlation_of d.on)) (K.qualified_condition C d.on d.condition) (by_own_name C d.on.table t e) wider q.qualified (record { names = q.names; types = q.types }) in
+      record { names = w.names; types = w.types; qualified = q.qualified }
 
   permitted_sound : IsSound K Allowed
   permitted_sound =
@@ -97,13 +103,17 @@ module _ (K : Checks) (steady : IsSteady K) (C : Cat) (T : Tables) (s : IsSound 
       (refitted_wider t t.row_control t.column_control t.public (put (is_permission d.name) (new_permission K C d) t.permissions) t.masks) OtherName (others C.tables taken) names
       (λ h. refitted_sound K Allowed t t.row_control t.column_control t.public (put (is_permission d.name) (new_permission K C d) t.permissions) t.masks
       (record {
-        permissions = all_put (λ (y : PermissionRec). AllByRecursion (Stands Allowed) (in_cond y.condition)) (is_permission d.name) (new_permission K C d) t.permissions h.permissions named_there_too;
+        permissions = all_put (λ (y : PermissionRec). AllByRecursion (Sources Allowed t.name) (in_cond y.condition)) (is_permission d.name) (new_permission K C d) t.permissions h.permissions named_there_too;
         masks = h.masks;
         places = h.columns.masked;
         once = h.label_columns.masks;
         right = all_put (IsValid K Allowed t) (is_permission d.name) (new_permission K C d) t.permissions h.stored.permissions is_right;
         right_masks = h.stored.masks;
       }) h))
+
+pub no_bad : (n : List ℕ) (o : Option (List ℕ)) → bad_source_of n o ≡ None → o ≡ None
+no_bad n None h = refl
+no_bad n (Some m) h = absurd cc
 
 -- what no table does the one that is found doesn't
 pub none_does : {A : Type 0} (test is : A → Bool) (xs : List A) (x : A) → AllByRecursion (λ (y : A). test y ≡ false) xs → find is xs ≡ Some x → test x ≡ false
@@ -118,8 +128,8 @@ module _ (K : Checks) (steady : IsSteady K) (C : Cat) (T : Tables) (s : IsSound 
   pub create_permission_sound : (user : List ℕ) (d : PermissionDef) → LeavesSound K (create_permission K C T user d)
   create_permission_sound user d =
       test_sound K (secadm C user) _ (λ _. found_then K d.on.table (table_named C d.on.table) _ (λ t e. test_sound K (when (list_any (takes_permission_name d) C.tables) (refusals.Exists d.name)) _
-      (λ free. test_sound K (K.condition_names C d.on d.condition) _ (λ names. test_sound K (source_refusal C d.name t.name (in_cond d.condition)) _ (λ _. test_sound K (K.condition_types C d.on d.condition) _
+      (λ free. test_sound K (K.condition_names C d.on d.condition) _ (λ names. test_sound K (source_refusal C d.name t.name (in_cond d.condition)) _ (λ good. test_sound K (K.condition_types C d.on d.condition) _
       (λ types.
       let taken : AllByRecursion (λ (x : Table). takes_permission_name d x ≡ false) C.tables = any_none (takes_permission_name d) C.tables (is_new _ _ free) in
       done_sound K (put_table (with_permission (new_permission K C d) t) C) T (keys.Table t.name ∷ [])
-      (permitted_sound K steady C T s d t e (record { names = names; types = types }) taken (none_does (takes_permission_name d) (is_table d.on.table) C.tables t taken e))))))))
+      (permitted_sound K steady C T s d t e (record { names = names; types = types }) taken (none_does (takes_permission_name d) (is_table d.on.table) C.tables t taken e) (none_found (is_bad_source C t.name) (tables_in (in_cond d.condition)) (no_bad d.name _ good)))))))))

@@ -1,5 +1,5 @@
 -- A change of one table's record leaves a sound catalogue sound.
-use Rattle.std.proofs.Common.{◌≡◌, refl, sym, ap, subst, ◌∙◌, ℕ, Bool, true, false, cond, not, ◌||◌, List, [], ◌∷◌, ◌++◌, map, length, Option, Some, None, is_some}
+use Rattle.std.proofs.Common.{◌≡◌, refl, sym, ap, subst, ◌∙◌, ℕ, Bool, true, false, cond, not, ◌||◌, ◌≤◌, suc, List, [], ◌∷◌, ◌++◌, map, length, Option, Some, None, is_some, arith}
 use Rattle.std.specs.Prelude.{find, take, drop, slice_get}
 use Rattle.std.specs.List.{AllByRecursion, AllZip, flat_map, list_any}
 use Rattle.std.specs.Str.{bytes_eq}
@@ -17,13 +17,19 @@ use Rattle.lb_rows.specs.Tables.{Tables}
 use Rattle.lb_rows.specs.Lists.{put, without}
 use Rattle.lb_cat.specs.Catalog.{Cat, Table, User, table_named, is_table, is_among, put_table}
 use Rattle.lb_names.specs.Mentions.{Mention, table, policy, label, in_cond, in_expr}
-use Rattle.lb_alter.specs.Stored.{Checks}
+use Rattle.lb_alter.specs.ChangeControl.{has_labels}
+use Rattle.lb_alter.specs.ChangeTable.{is_label_type, is_label_column}
+use Rattle.lb_alter.specs.Columns.{IsPlace, has_mask_twice, HasKeyColumn}
+use Rattle.lb_alter.specs.Labelled.{IsLabelHere, ColumnBelongs, LabelsBelong, HoldsLabels}
+use Rattle.lb_alter.specs.Named.{AreDifferent, IfGiven, HasTable, HasPolicy, HasRole}
 use Rattle.lb_alter.specs.Refusing.{alters}
-use Rattle.lb_alter.specs.ChangeControl.{is_label_rec}
-use Rattle.lb_alter.specs.Sound.{AreDifferent, IfGiven, HasTable, HasPolicy, HasRole, IsLabelHere, IsPlace, has_mask_twice, ColumnBelongs, LabelsBelong, HoldsLabels, IsValid, TypesAt, IsValidMask, IsSound, called}
-use Rattle.lb_alter.specs.Laws.{IsSameColumn, IsWider, IsSteady}
+use Rattle.lb_alter.specs.Sound.{IsSound}
+use Rattle.lb_alter.specs.Steady.{IsSameColumn, IsWider, IsSteady}
+use Rattle.lb_alter.specs.Stored.{Checks}
+use Rattle.lb_alter.specs.Valid.{IsValid, TypesAt, IsValidMask, called}
+use Rattle.lb_alter.proofs.SoundGrants.{is_there}
+use Rattle.lb_alter.proofs.SoundParts.{InPermissions, InMasks, Stands, TableIsSound, PolicyIsSound, Parts, apart, together, table_names, Reads, stored_moves, IsSource, Sources, source_stands}
 use Rattle.lb_alter.proofs.SoundUsers.{UserIsSound, LeavesSound, done_sound, all_put, all_append, all_follow, all_found, different_put, and_left, and_right, not_so, both}
-use Rattle.lb_alter.proofs.SoundParts.{InPermissions, InMasks, Stands, TableIsSound, PolicyIsSound, Parts, apart, together, table_names, Reads, stored_moves}
 use Rattle.lb_alter.proofs.Untouched.{or_left, or_right, turned, put_other, without_other}
 
 -- ---- lists
@@ -228,17 +234,30 @@ masks_follow G H f ms h = all_follow (λ (m : MaskRec). AllByRecursion G (in_exp
 pub belonging_follows : (C D : Cat) (t : Table) → ((l : List ℕ) → IsLabelHere C t l → IsLabelHere D t l) → LabelsBelong C t → LabelsBelong D t
 belonging_follows C D t f h = all_follow (ColumnBelongs C t) (ColumnBelongs D t) (λ c i. record { label = i.label; secured = given_follow (IsLabelHere C t) (IsLabelHere D t) f c.secured i.secured }) t.columns h
 
+-- no table that is there gets a label column
+abbrev pub StaysPlain : Cat → Cat → Type 0
+StaysPlain C D = (n : List ℕ) → HasTable C n → has_labels (table_named C n) ≡ false → has_labels (table_named D n) ≡ false
+
+pub source_follows : (C D : Cat) → ((n : List ℕ) → HasTable C n → HasTable D n) → StaysPlain C D → (own n : List ℕ) → IsSource C own n → IsSource D own n
+source_follows C D f l own n h = (f n h.0, neither (bytes_eq n own) _ (or_left _ _ h.1) (l n h.0 (or_right (bytes_eq n own) _ h.1)))
+
+pub sources_follow : (C D : Cat) → ((n : List ℕ) → HasTable C n → HasTable D n) → ((n : List ℕ) → HasPolicy C n → HasPolicy D n) → StaysPlain C D → (own : List ℕ) (m : Mention) → Sources C own m → Sources D own m
+sources_follow C D f g l own (table n) h = source_follows C D f l own n h
+sources_follow C D f g l own (policy p) h = g p h
+sources_follow C D f g l own (label p x) h = g p h
+
 -- a table's record in a catalogue in which all that it rests on is still there
 pub table_moves : (K : Checks) (C D : Cat) (Own : List ℕ → Type 0) (G : Mention → Type 0) → Reads K C D Own G → (t : Table) → Own t.name → ((m : Mention) → Stands C m → G m)
-    → ((n : List ℕ) → HasTable C n → HasTable D n) → ((n : List ℕ) → HasPolicy C n → HasPolicy D n) → ((l : List ℕ) → IsLabelHere C t l → IsLabelHere D t l) → TableIsSound K C t → TableIsSound K D t
-table_moves K C D Own G r t own good f g l h = record {
+    → ((n : List ℕ) → HasTable C n → HasTable D n) → ((n : List ℕ) → HasPolicy C n → HasPolicy D n) → ((l : List ℕ) → IsLabelHere C t l → IsLabelHere D t l) → StaysPlain C D → TableIsSound K C t → TableIsSound K D t
+table_moves K C D Own G r t own good f g l q h = record {
   policy = given_follow (HasPolicy C) (HasPolicy D) g t.policy h.policy;
-  permissions = permissions_follow (Stands C) (Stands D) (stands_follow C D f g) t.permissions h.permissions;
-  masks = masks_follow (Stands C) (Stands D) (stands_follow C D f g) t.masks h.masks;
+  permissions = permissions_follow (Sources C t.name) (Sources D t.name) (sources_follow C D f g q t.name) t.permissions h.permissions;
+  masks = masks_follow (Sources C t.name) (Sources D t.name) (sources_follow C D f g q t.name) t.masks h.masks;
   columns = h.columns;
+  few = h.few;
   label_columns = h.label_columns;
   belonging = belonging_follows C D t l h.belonging;
-  stored = stored_moves K C D Own G r t own (permissions_follow (Stands C) G good t.permissions h.permissions) (masks_follow (Stands C) G good t.masks h.masks) h.stored;
+  stored = stored_moves K C D Own G r t own (permissions_follow (Sources C t.name) G (λ m i. good m (source_stands C t.name m i)) t.permissions h.permissions) (masks_follow (Sources C t.name) G (λ m i. good m (source_stands C t.name m i)) t.masks h.masks) h.stored;
 }
 
 -- a user's record, where tables and policies are still there
@@ -263,8 +282,11 @@ module _ (K : Checks) (C : Cat) (u : Table) where
 
   -- a table's record is replaced or added
   pub put_table_parts : (Own : List ℕ → Type 0) (G : Mention → Type 0) → Reads K C (put_table u C) Own G → AllByRecursion (λ (x : Table). Own x.name) C.tables → ((m : Mention) → Stands C m → G m)
+      → StaysPlain C (put_table u C) → length (put (is_table u.name) u C.tables) ≤ 64
       → AreDifferent (flat_map table_names (put (is_table u.name) u C.tables)) → TableIsSound K (put_table u C) u → Parts K C → Parts K (put_table u C)
-  put_table_parts Own G r own good names h p = record {
+  put_table_parts Own G r own good plain few names h p = record {
+    few = few;
+    made = p.made;
     one_each = record {
       tables = different_put (λ (x : Table). x.name) u C.tables p.one_each.tables;
       policies = p.one_each.policies;
@@ -274,18 +296,45 @@ module _ (K : Checks) (C : Cat) (u : Table) where
     };
     stored = names;
     tables = all_put (TableIsSound K (put_table u C)) (is_table u.name) u C.tables (tables_move C.tables own p.tables) h;
-    policies = all_follow (PolicyIsSound C) (PolicyIsSound (put_table u C)) (λ x i. record { components = i.components; labels = i.labels; shape = record { shape = i.shape.shape; labels = i.shape.labels } }) C.policies p.policies;
+    policies = all_follow (PolicyIsSound C) (PolicyIsSound (put_table u C)) (λ x i. record { folded = i.folded; few = i.few; components = i.components; labels = i.labels; shape = record { shape = i.shape.shape; labels = i.shape.labels } }) C.policies p.policies;
     users = all_follow (UserIsSound C) (UserIsSound (put_table u C))
         (λ x i. user_moves C (put_table u C) table_stays_there x i i.records.roles i.records.held (all_follow (HoldsLabels C) (HoldsLabels (put_table u C)) (λ y j. record { read = j.read; write = j.write }) x.held i.held)) C.users p.users;
   }
     where
       tables_move : (xs : List Table) → AllByRecursion (λ (x : Table). Own x.name) xs → AllByRecursion (TableIsSound K C) xs → AllByRecursion (TableIsSound K (put_table u C)) xs
       tables_move [] o i = tt
-      tables_move (x ∷ xs) o i = (table_moves K C (put_table u C) Own G r x o.0 good table_stays_there (λ n z. z) (λ l z. z) i.0, tables_move xs o.1 i.1)
+      tables_move (x ∷ xs) o i = (table_moves K C (put_table u C) Own G r x o.0 good table_stays_there (λ n z. z) (λ l z. z) plain i.0, tables_move xs o.1 i.1)
 
 pub own_always : (xs : List Table) → AllByRecursion (λ (x : Table). Always x.name) xs
 own_always [] = tt
 own_always (x ∷ xs) = (tt, own_always xs)
+
+-- a table with the same columns and some more that hold no label has no label column where it had none
+zipped_plain : (cs ds more : List ColumnRec) → AllZip IsSameColumn cs (take (length cs) ds) → drop (length cs) ds ≡ more → list_any is_label_column more ≡ false → list_any is_label_column cs ≡ false → list_any is_label_column ds ≡ false
+zipped_plain [] ds more z e p h = subst (λ (xs : List ColumnRec). list_any is_label_column xs ≡ false) (sym e) p
+zipped_plain (c ∷ cs) [] more z e p h = refl
+zipped_plain (c ∷ cs) (d ∷ ds) more z e p h =
+    neither (is_label_column d) _ (ap is_label_type z.0.1 ∙ or_left _ _ h) (zipped_plain cs ds more z.1 e p (or_right (is_label_column c) _ h))
+
+pub wider_plain : (t u : Table) → IsWider t u → has_labels (Some t) ≡ false → has_labels (Some u) ≡ false
+wider_plain t u w h = zipped_plain t.columns u.columns w.more w.same w.rest w.plain h
+
+module _ {R : Type 0} (name : R → List ℕ) (r : R) where
+  pub same_number : (xs : List R) → is_some (find (λ x. bytes_eq (name x) (name r)) xs) ≡ true → length (put (λ x. bytes_eq (name x) (name r)) r xs) ≡ length xs
+  same_number [] h = absurd cc
+  same_number (x ∷ xs) h =
+      elim (bytes_eq (name x) (name r)) as (λ b. is_some (cond b (Some x) (find (λ y. bytes_eq (name y) (name r)) xs)) ≡ true → length (cond b (r ∷ xs) (x ∷ put (λ y. bytes_eq (name y) (name r)) r xs)) ≡ suc (length xs)) [
+        | true ↦ λ _. refl
+        | false ↦ λ i. ap (λ (k : ℕ). suc k) (same_number xs i)
+      ] h
+
+  pub one_more : (xs : List R) → length (put (λ x. bytes_eq (name x) (name r)) r xs) ≤ suc (length xs)
+  one_more [] = omega arith
+  one_more (x ∷ xs) =
+      elim (bytes_eq (name x) (name r)) as (λ b. length (cond b (r ∷ xs) (x ∷ put (λ y. bytes_eq (name y) (name r)) r xs)) ≤ suc (suc (length xs))) [
+        | true ↦ omega arith
+        | false ↦ let h : length (put (λ y. bytes_eq (name y) (name r)) r xs) ≤ suc (length xs) = one_more xs in omega (arith, h)
+      ]
 
 module _ (K : Checks) (steady : IsSteady K) (C : Cat) (T : Tables) (s : IsSound K C) (t u : Table) (there : table_named C t.name ≡ Some t) (same : u.name ≡ t.name) (wider : IsWider t u) where
   pub wider_reads : Reads K C (put_table u C) Always Always
@@ -297,15 +346,19 @@ module _ (K : Checks) (steady : IsSteady K) (C : Cat) (T : Tables) (s : IsSound 
   there_too : find (is_table u.name) C.tables ≡ Some t
   there_too = subst (λ (n : List ℕ). find (is_table n) C.tables ≡ Some t) (sym same) there
 
+  pub stays_plain : StaysPlain C (put_table u C)
+  stays_plain n _ h = put_case (λ (x : Table). x.name) (λ o. has_labels o ≡ false) u C.tables n
+      (λ e. wider_plain t u wider (subst (λ (o : Option Table). has_labels o ≡ false) (subst (λ (m : List ℕ). table_named C m ≡ Some t) (sym same ∙ e) there) h)) h
+
   -- the table's record in the new catalogue, before it is changed
   pub old_moves : TableIsSound K C t → TableIsSound K (put_table u C) t
-  old_moves h = table_moves K C (put_table u C) Always Always wider_reads t tt (λ m _. tt) (λ n z. there_put (λ (x : Table). x.name) u C.tables n z) (λ n z. z) (λ l z. z) h
+  old_moves h = table_moves K C (put_table u C) Always Always wider_reads t tt (λ m _. tt) (λ n z. there_put (λ (x : Table). x.name) u C.tables n z) (λ n z. z) (λ l z. z) stays_plain h
 
   pub put_wider : (Other : List ℕ → Type 0) → AllByRecursion (λ (x : Table). bytes_eq x.name u.name ≡ false → AllByRecursion Other (table_names x)) C.tables → Names Other (table_names u) (table_names t)
       → (TableIsSound K (put_table u C) t → TableIsSound K (put_table u C) u) → Parts K (put_table u C)
   put_wider Other others names f =
       let p : Parts K C = apart K C s in
-      put_table_parts K C u Always Always wider_reads (own_always C.tables) (λ m _. tt)
+      put_table_parts K C u Always Always wider_reads (own_always C.tables) (λ m _. tt) stays_plain (subst (λ (k : ℕ). k ≤ 64) (sym (same_number (λ (x : Table). x.name) u C.tables (is_there _ t there_too))) p.few)
       ((names_put Other u t C.tables p.one_each.tables others there_too names).different p.stored)
       (f (old_moves (all_found (TableIsSound K C) (is_table u.name) C.tables t p.tables there_too))) p
 
@@ -318,7 +371,7 @@ same_columns : (cs : List ColumnRec) → AllZip IsSameColumn cs (take (length cs
 same_columns [] = tt
 same_columns (c ∷ cs) = ((refl, refl), same_columns cs)
 
-nothing_more : (cs : List ColumnRec) → list_any is_label_rec (drop (length cs) cs) ≡ false
+nothing_more : (cs : List ColumnRec) → list_any is_label_column (drop (length cs) cs) ≡ false
 nothing_more [] = refl
 nothing_more (c ∷ cs) = nothing_more cs
 
@@ -331,8 +384,8 @@ refitted_wider t row column public ps ms = record { name = refl; more = drop (le
 
 -- what is asked of the other permissions and masks
 pub record Refits (K : Checks) (D : Cat) (t : Table) (ps : List PermissionRec) (ms : List MaskRec) : Type 0 where
-  pub permissions : InPermissions (Stands D) ps
-  pub masks : InMasks (Stands D) ms
+  pub permissions : InPermissions (Sources D t.name) ps
+  pub masks : InMasks (Sources D t.name) ms
   pub places : AllByRecursion (λ (m : MaskRec). IsPlace t m.column) ms
   pub once : has_mask_twice ms ≡ false
   pub right : AllByRecursion (IsValid K D t) ps
@@ -345,15 +398,20 @@ refits_old K D t h = record { permissions = h.permissions; masks = h.masks; plac
 pub retyped : (K : Checks) (D : Cat) (t u : Table) (m o : MaskRec) → called t m.correlation ≡ called u o.correlation → m.value ≡ o.value → (c : Option ColumnRec) → TypesAt K D t m c → TypesAt K D u o c
 retyped K D t u m o e f None h = absurd h
 retyped K D t u m o e f (Some c) h =
-    subst (λ (x : Tab). K.mask_types D x c.ty o.value ≡ None) e (subst (λ (v : Expr). K.mask_types D (called t m.correlation) c.ty v ≡ None) f h)
+    (subst (λ (x : Tab). K.mask_types D x c.ty o.value ≡ None) e (subst (λ (v : Expr). K.mask_types D (called t m.correlation) c.ty v ≡ None) f h.0), h.1)
 
 module _ (K : Checks) (D : Cat) (t : Table) (row column : Bool) (public : Privileges) (ps : List PermissionRec) (ms : List MaskRec) where
+  key_refitted : (key : Option ℕ) → HasKeyColumn t key → HasKeyColumn (refitted t row column public ps ms) key
+  key_refitted None h = tt
+  key_refitted (Some at) h = record { place = h.place; not_null = h.not_null }
+
   pub refitted_sound : Refits K D t ps ms → TableIsSound K D t → TableIsSound K D (refitted t row column public ps ms)
   refitted_sound r h = record {
     policy = h.policy;
     permissions = r.permissions;
     masks = r.masks;
-    columns = record { names = h.columns.names; key = h.columns.key; masked = r.places };
+    columns = record { names = h.columns.names; key = key_refitted t.key h.columns.key; masked = r.places };
+    few = record { some = h.few.some; few = h.few.few; widths = h.few.widths };
     label_columns = record { one = h.label_columns.one; key = h.label_columns.key; secured = h.label_columns.secured; masks = r.once };
     belonging = all_follow (ColumnBelongs D t) (ColumnBelongs D (refitted t row column public ps ms)) (λ c i. record { label = i.label; secured = i.secured }) t.columns h.belonging;
     stored = record {

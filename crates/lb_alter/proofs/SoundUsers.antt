@@ -17,12 +17,16 @@ use Rattle.lb_rows.specs.Lists.{put, without}
 use Rattle.lb_cat.specs.Keys.{same_key, once}
 use Rattle.lb_cat.specs.Catalog.{Cat, Table, User, policy_named, is_user, no_user, is_among, has_role, put_user}
 use Rattle.lb_names.specs.Mentions.{Mentions, table, policies_in, in_cond, in_expr}
-use Rattle.lb_alter.specs.Stored.{Checks}
-use Rattle.lb_alter.specs.Deps.{deps_of, tables_for, policies_for, components_for}
-use Rattle.lb_alter.specs.Refusing.{Changed, OrRefused, ◌>>◌, when, secadm, done}
 use Rattle.lb_alter.specs.ChangeGrant.{user_or_new, grants, revokes, taken_from, with_secadm, with_role, without_role, has_role_of, the_role, grant_secadm, revoke_secadm, grant_role, revoke_role}
-use Rattle.lb_alter.specs.Sound.{AreDifferent, are_different, TableNamesRecords, UserNamesRecords, HasRole, HasOneEntryEach, ColumnBelongs, LabelsBelong, HoldsLabels, HeldLabelsAreThere, HasItsShape, IsValid, TypesAt, IsValidMask, StoresValid, HasNoEmptyEntry, IsSound, called}
-use Rattle.lb_alter.specs.Laws.{SameRecord, SameFor, KeepsRules, KeepsMaskRules, IsSteady}
+use Rattle.lb_alter.specs.Deps.{deps_of, tables_for, policies_for, components_for}
+use Rattle.lb_alter.specs.Frame.{SameRecord, SameOn}
+use Rattle.lb_alter.specs.Labelled.{ColumnBelongs, LabelsBelong, HoldsLabels, HeldLabelsAreThere, HasItsShape}
+use Rattle.lb_alter.specs.Named.{AreDifferent, are_different, TableNamesRecords, UserNamesRecords, HasRole, HasOneEntryEach, HasNoEmptyEntry, HasFoldedNames}
+use Rattle.lb_alter.specs.Refusing.{Changed, OrRefused, ◌>>◌, when, secadm, done}
+use Rattle.lb_alter.specs.Sound.{IsSound}
+use Rattle.lb_alter.specs.Steady.{IsSteady, stored_deps}
+use Rattle.lb_alter.specs.Stored.{Checks}
+use Rattle.lb_alter.specs.Valid.{IsValid, TypesAt, IsValidMask, StoresValid, called, KeepsRules, KeepsMaskRules}
 use Rattle.lb_alter.proofs.Untouched.{or_left, or_right, turned}
 
 -- ---- lists
@@ -116,37 +120,33 @@ deps_all P t p c C ms = once_all P _
 -- ---- one user's record
 
 module _ (K : Checks) (steady : IsSteady K) (C : Cat) where
-  same_policies : (u : User) (ns : List (List ℕ)) → AllByRecursion (λ (n : List ℕ). policy_named (put_user u C) n ≡ policy_named C n) ns
-  same_policies u [] = tt
-  same_policies u (n ∷ ns) = (refl, same_policies u ns)
+  same_on : (u : User) (on : Tab) (ms : Mentions) → SameOn (stored_deps C on ms) C (put_user u C)
+  same_on u on ms = deps_all (SameRecord C (put_user u C)) (λ n. refl) (λ n. refl) (λ n. refl) C (table on.table ∷ ms)
 
-  same_on : (u : User) (on : Tab) (ms : Mentions) → SameFor C (put_user u C) on ms
-  same_on u on ms = (deps_all (SameRecord C (put_user u C)) (λ n. refl) (λ n. refl) (λ n. refl) C (table on.table ∷ ms), same_policies u (policies_in ms))
-
-  right_stays : (u : User) (t : Table) (p : PermissionRec) → IsValid K C t p → IsValid K (put_user u C) t p
-  right_stays u t p h =
+  valid_stays : (u : User) → HasFoldedNames C → (t : Table) (p : PermissionRec) → IsValid K C t p → IsValid K (put_user u C) t p
+  valid_stays u f t p h =
       let r : KeepsRules K (put_user u C) (called t p.correlation) p.condition =
-      steady.reads C (put_user u C) (called t p.correlation) p.condition (same_on u (called t p.correlation) (in_cond p.condition)) (record { names = h.names; types = h.types }) in
-      record { names = r.names; types = r.types; qualified = steady.same C (put_user u C) (called t p.correlation) p.condition (same_on u (called t p.correlation) (in_cond p.condition)) ∙ h.qualified }
+      steady.reads C (put_user u C) (called t p.correlation) p.condition f f (same_on u (called t p.correlation) (in_cond p.condition)) (record { names = h.names; types = h.types }) in
+      record { names = r.names; types = r.types; qualified = h.qualified }
 
-  types_stay : (u : User) (t : Table) (m : MaskRec) (c : Option ColumnRec) → K.mask_names C (called t m.correlation) m.value ≡ None → TypesAt K C t m c
+  types_stay : (u : User) → HasFoldedNames C → (t : Table) (m : MaskRec) (c : Option ColumnRec) → K.mask_names C (called t m.correlation) m.value ≡ None → TypesAt K C t m c
       → (K.mask_names (put_user u C) (called t m.correlation) m.value ≡ None) × TypesAt K (put_user u C) t m c
-  types_stay u t m None h i = absurd i
-  types_stay u t m (Some c) h i =
+  types_stay u f t m None h i = absurd i
+  types_stay u f t m (Some c) h i =
       let r : KeepsMaskRules K (put_user u C) (called t m.correlation) c.ty m.value =
-      steady.reads_mask C (put_user u C) (called t m.correlation) c.ty m.value (same_on u (called t m.correlation) (in_expr m.value)) (record { names = h; types = i }) in
-      (r.names, r.types)
+      steady.reads_mask C (put_user u C) (called t m.correlation) c.ty m.value f f (same_on u (called t m.correlation) (in_expr m.value)) (record { names = h; types = i.0 }) in
+      (r.names, (r.types, i.1))
 
-  mask_stays : (u : User) (t : Table) (m : MaskRec) → IsValidMask K C t m → IsValidMask K (put_user u C) t m
-  mask_stays u t m h =
+  mask_stays : (u : User) → HasFoldedNames C → (t : Table) (m : MaskRec) → IsValidMask K C t m → IsValidMask K (put_user u C) t m
+  mask_stays u f t m h =
       let r : (K.mask_names (put_user u C) (called t m.correlation) m.value ≡ None) × TypesAt K (put_user u C) t m (slice_get t.columns m.column) =
-      types_stay u t m (slice_get t.columns m.column) h.names h.types in
-      record { names = r.0; types = r.1; qualified = steady.same_mask C (put_user u C) (called t m.correlation) m.value (same_on u (called t m.correlation) (in_expr m.value)) ∙ h.qualified }
+      types_stay u f t m (slice_get t.columns m.column) h.names h.types in
+      record { names = r.0; types = r.1; qualified = h.qualified }
 
-  stores_stay : (u : User) (t : Table) → StoresValid K C t → StoresValid K (put_user u C) t
-  stores_stay u t h = record {
-    permissions = all_follow (IsValid K C t) (IsValid K (put_user u C) t) (right_stays u t) t.permissions h.permissions;
-    masks = all_follow (IsValidMask K C t) (IsValidMask K (put_user u C) t) (mask_stays u t) t.masks h.masks;
+  stores_stay : (u : User) → HasFoldedNames C → (t : Table) → StoresValid K C t → StoresValid K (put_user u C) t
+  stores_stay u f t h = record {
+    permissions = all_follow (IsValid K C t) (IsValid K (put_user u C) t) (valid_stays u f t) t.permissions h.permissions;
+    masks = all_follow (IsValidMask K C t) (IsValidMask K (put_user u C) t) (mask_stays u f t) t.masks h.masks;
   }
 
 -- what soundness asks of a user's record
@@ -172,6 +172,9 @@ put_user_sound K steady C u h s = record {
     users = different_put (λ (x : User). x.name) u C.users s.one_each.users;
     roles = s.one_each.roles;
   };
+  folded = s.folded;
+  sources = s.sources;
+  limits = record { tables = s.limits.tables; columns = s.limits.columns; policies = s.limits.policies; components = s.limits.components };
   records = record {
     tables = all_follow (TableNamesRecords C) (TableNamesRecords (put_user u C)) (λ t i. record { policy = i.policy; sources = i.sources; calls = i.calls }) C.tables s.records.tables;
     policies = s.records.policies;
@@ -182,7 +185,7 @@ put_user_sound K steady C u h s = record {
   names = record { stored = s.names.stored; labels = s.names.labels; users = all_put HasOneEntryEach (is_user u.name) u C.users s.names.users h.one };
   belonging = all_follow (LabelsBelong C) (LabelsBelong (put_user u C))
       (λ t i. all_follow (ColumnBelongs C t) (ColumnBelongs (put_user u C) t) (λ c j. record { label = j.label; secured = j.secured }) t.columns i) C.tables s.belonging;
-  stored = all_follow (StoresValid K C) (StoresValid K (put_user u C)) (stores_stay K steady C u) C.tables s.stored;
+  stored = all_follow (StoresValid K C) (StoresValid K (put_user u C)) (stores_stay K steady C u s.folded) C.tables s.stored;
   shapes = all_follow (HasItsShape C) (HasItsShape (put_user u C)) (λ p i. record { shape = i.shape; labels = i.labels }) C.policies s.shapes;
   held = all_put (HeldLabelsAreThere (put_user u C)) (is_user u.name) u C.users (all_follow (HeldLabelsAreThere C) (HeldLabelsAreThere (put_user u C)) (holds_stay C u) C.users s.held) (holds_stay C u u h.held);
   entries = all_put HasNoEmptyEntry (is_user u.name) u C.users s.entries h.entries;

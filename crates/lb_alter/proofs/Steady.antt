@@ -9,7 +9,7 @@ use Rattle.lb_cat.specs.Keys.{same_key, once}
 use Rattle.lb_cat.specs.Catalog.{Cat, table_named, policy_named}
 use Rattle.lb_names.specs.Mentions.{Mentions, in_stmt, tables_in, policies_in}
 use Rattle.lb_alter.specs.Deps.{in_tables, in_table, tables_for, policy_of_table, is_key_name, policies_for, components_of, components_for, deps_of}
-use Rattle.lb_alter.specs.Laws.{SameRecord, SameOn, DepsStay}
+use Rattle.lb_alter.specs.Frame.{SameRecord, SameOn, DepsStay}
 
 -- ---- keys
 

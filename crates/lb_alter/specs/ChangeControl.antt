@@ -23,7 +23,7 @@ use Rattle.lb_cat.specs.Catalog.{Cat, Table, table_named, is_table, is_column, i
 use Rattle.lb_names.specs.Mentions.{Mentions, in_cond, in_expr, tables_in}
 use Rattle.lb_alter.specs.Stored.{Checks}
 use Rattle.lb_alter.specs.Refusing.{Changed, OrRefused, ◌>>=◌, ◌>>◌, when, found, the_table, secadm, alters}
-use Rattle.lb_alter.specs.ChangeTable.{is_label_type, exists_already}
+use Rattle.lb_alter.specs.ChangeTable.{is_label_column, exists_already}
 
 -- ---- activation
 
@@ -65,12 +65,9 @@ correlation_of on = named_or on.table on.correlation where
 
 -- ---- sources
 
-abbrev pub is_label_rec : ColumnRec → Bool
-is_label_rec c = is_label_type c.ty
-
 abbrev pub has_labels : Option Table → Bool
 has_labels None = false
-has_labels (Some t) = list_any is_label_rec t.columns
+has_labels (Some t) = list_any is_label_column t.columns
 
 -- a subquery may not read the protected table, nor a table with a label column
 abbrev pub is_bad_source : Cat → List ℕ → List ℕ → Bool

@@ -54,6 +54,10 @@ abbrev pub is_label_type : Ty → Bool
 is_label_type (types.Label policy) = true
 is_label_type _ = false
 
+-- the column holds labels
+abbrev pub is_label_column : ColumnRec → Bool
+is_label_column c = is_label_type c.ty
+
 -- ---- the elements of CREATE TABLE
 
 abbrev pub column_in : Element → Option ColumnDef
@@ -75,9 +79,9 @@ keys_in es = filter_map key_in es
 abbrev pub is_key : List Element → ColumnDef → Bool
 is_key es d = d.key || is_among (keys_in es) d.name
 
-abbrev pub is_label_column : ColumnType → Bool
-is_label_column (column_types.Plain ty) = false
-is_label_column column_types.Label = true
+abbrev pub is_label_kind : ColumnType → Bool
+is_label_kind (column_types.Plain ty) = false
+is_label_kind column_types.Label = true
 
 abbrev pub column_width_refusal : ColumnType → Option Refusal
 column_width_refusal (column_types.Plain ty) = width_refusal ty
@@ -106,17 +110,17 @@ policy_refusal C (Some n) = when (is_none (policy_named C n)) (refusals.Unknown 
 -- what is wrong with a column, where the table has a policy or not, and a label column or a key stands before it or not
 abbrev pub flaw_refusal : Bool → Bool → Bool → Bool → ColumnDef → Option Refusal
 flaw_refusal protected label_before key_before key d = earliest
-    (when ((is_label_column d.ty || is_some d.secured) && not protected) (refusals.BadTable d.name flaws.NoPolicy)
-    ∷ when (is_label_column d.ty && label_before) (refusals.BadTable d.name flaws.TwoLabels)
+    (when ((is_label_kind d.ty || is_some d.secured) && not protected) (refusals.BadTable d.name flaws.NoPolicy)
+    ∷ when (is_label_kind d.ty && label_before) (refusals.BadTable d.name flaws.TwoLabels)
     ∷ when (key && key_before) (refusals.BadTable d.name flaws.TwoKeys)
-    ∷ when (is_label_column d.ty && (key || is_some d.secured)) (refusals.BadTable d.name flaws.LabelKey)
+    ∷ when (is_label_kind d.ty && (key || is_some d.secured)) (refusals.BadTable d.name flaws.LabelKey)
     ∷ [])
 
 abbrev pub flaws_refusal : Bool → Bool → Bool → List Element → List ColumnDef → Option Refusal
 flaws_refusal protected label_before key_before es [] = None
 flaws_refusal protected label_before key_before es (d ∷ ds) = earliest
     (flaw_refusal protected label_before key_before (is_key es d) d
-    ∷ flaws_refusal protected (label_before || is_label_column d.ty) (key_before || is_key es d) es ds
+    ∷ flaws_refusal protected (label_before || is_label_kind d.ty) (key_before || is_key es d) es ds
     ∷ [])
 
 -- the policy has the label
@@ -137,9 +141,9 @@ abbrev pub column_type : Option (List ℕ) → ColumnType → Ty
 column_type policy (column_types.Plain ty) = plain_type ty
 column_type policy column_types.Label = types.Label (unwrap_or policy [])
 
--- a key is NOT NULL
+-- a key is NOT NULL, and a label column isn't marked so
 abbrev pub new_column : List Element → Option (List ℕ) → ColumnDef → ColumnRec
-new_column es policy d = record { name = d.name; ty = column_type policy d.ty; not_null = d.not_null || is_key es d; secured = d.secured }
+new_column es policy d = record { name = d.name; ty = column_type policy d.ty; not_null = (d.not_null && not (is_label_kind d.ty)) || is_key es d; secured = d.secured }
 
 abbrev pub new_table : List ℕ → List ℕ → List Element → Option (List ℕ) → Table
 new_table user n es policy = record {

@@ -3,10 +3,17 @@ pub mod ChangeControl
 pub mod ChangeGrant
 pub mod ChangeLabel
 pub mod ChangeTable
+pub mod Columns
 pub mod Deps
 pub mod Fits
+pub mod Frame
+pub mod Labelled
 pub mod Laws
+pub mod Named
 pub mod Refusing
 pub mod Sound
+pub mod Steady
 pub mod Stored
+pub mod Valid
 pub mod Worked
+pub mod WorkedControls

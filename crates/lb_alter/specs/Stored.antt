@@ -12,8 +12,8 @@ use Rattle.lb_rows.specs.Lists.{without}
 use Rattle.lb_cat.specs.Catalog.{Cat, Table, is_table}
 use Rattle.lb_names.specs.Mentions.{Mentions, in_cond, in_expr, is_table_mention, is_policy_mention, is_label_mention}
 
--- The rules of names and types over stored conditions. They take the catalogue, and the table by the correlation name that a
--- condition calls it by. (A parameter of this draft.)
+-- The rules of names and types over stored conditions, which take the catalogue, and the table with the correlation name by which
+-- the condition calls it. What a change does and what soundness asks is said for any such rules.
 pub record Checks : Type 0 where
   -- the first refusal of a name
   pub condition_names : Cat → Tab → Cond → Option Refusal
@@ -24,6 +24,9 @@ pub record Checks : Type 0 where
   -- the same with each column qualified
   pub qualified_condition : Cat → Tab → Cond → Cond
   pub qualified_mask : Cat → Tab → Expr → Expr
+  -- each column of the tree is qualified already
+  pub is_qualified : Cond → Bool
+  pub is_qualified_mask : Expr → Bool
 
 -- ---- what they name
 

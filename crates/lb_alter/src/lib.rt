@@ -4,5 +4,6 @@
 mod laws;
 
 pub use laws::{
-    changes_stay_sound, dependencies_stay, first_is_sound, some_rules_are_steady, untouched_stays, worked_changes,
+    changes_keep_fits, changes_stay_sound, credentials_fit, dependencies_stay, first_is_sound, first_tables_fit,
+    some_rules_are_steady, untouched_stays, worked_changes, worked_controls,
 };

@@ -11,15 +11,19 @@ use Rattle.lb_rows.specs.Lists.{put, without}
 use Rattle.lb_cat.specs.declared.catalog.Holding.{Holding}
 use Rattle.lb_cat.specs.Catalog.{User}
 
+-- nothing held of the policy
 abbrev pub no_holding : List ℕ → Holding
 no_holding policy = record { policy = policy; read = None; write = None; exempt = no_exemption }
 
+-- no rule is exempted
 abbrev pub exempts_none : Exempt → Bool
 exempts_none x = not (x.read_array || x.read_set || x.read_tree || x.write_down || x.write_up || x.write_set || x.write_tree)
 
+-- neither a label nor an exemption
 abbrev pub is_empty_holding : Holding → Bool
 is_empty_holding h = is_none h.read && is_none h.write && exempts_none h.exempt
 
+-- the entry is of that policy
 abbrev pub is_holding_of : List ℕ → Holding → Bool
 is_holding_of policy h = bytes_eq h.policy policy
 
@@ -31,17 +35,21 @@ holding_of policy u = unwrap_or (find (is_holding_of policy) u.held) (no_holding
 abbrev pub kept_holding : Holding → List Holding → List Holding
 kept_holding h hs = if is_empty_holding h then without (is_holding_of h.policy) hs else put (is_holding_of h.policy) h hs
 
+-- the user with the entry
 abbrev pub with_holding : Holding → User → User
 with_holding h u = record u { held = kept_holding h u.held }
 
+-- the user has an entry for the policy
 abbrev pub has_holding_of : List ℕ → User → Bool
 has_holding_of policy u = is_some (find (is_holding_of policy) u.held)
 
+-- the user without an entry for the policy
 abbrev pub without_holding : List ℕ → User → User
 without_holding policy u = record u { held = without (is_holding_of policy) u.held }
 
 -- ---- labels
 
+-- it is given and is that name
 abbrev pub is_same_name : List ℕ → Option (List ℕ) → Bool
 is_same_name n None = false
 is_same_name n (Some m) = bytes_eq m n
@@ -57,6 +65,7 @@ other_than label (Some m) = if bytes_eq m label then None else Some m
 
 -- ---- exemptions
 
+-- the seven rules of DB2LBACRULES
 abbrev pub all_rules : List Rule
 all_rules = rules.ReadArray ∷ rules.ReadSet ∷ rules.ReadTree ∷ rules.WriteDown ∷ rules.WriteUp ∷ rules.WriteSet ∷ rules.WriteTree ∷ []
 
@@ -65,9 +74,11 @@ abbrev pub rules_in : Exempted → List Rule
 rules_in exempted.All = all_rules
 rules_in (exempted.Rule rule) = rule ∷ []
 
+-- exempted from these rules and no others
 abbrev pub exempt_from : List Rule → Exempt
 exempt_from rs = fold with_exemption no_exemption rs
 
+-- with these exemptions besides
 abbrev pub with_exemptions : Exempted → Exempt → Exempt
 with_exemptions r x = fold with_exemption x (rules_in r)
 

@@ -11,9 +11,11 @@ use Rattle.lb_cat.specs.declared.catalog.Grant.{Grant}
 use Rattle.lb_cat.specs.declared.cred.Cred.{Cred}
 use Rattle.lb_cat.specs.Catalog.{Table, User}
 
+-- no privilege
 abbrev pub no_privileges : Privileges
 no_privileges = record { select = false; insert = false; update = false; delete = false }
 
+-- none is given
 abbrev pub has_none : Privileges → Bool
 has_none p = not (p.select || p.insert || p.update || p.delete)
 
@@ -30,9 +32,11 @@ with_privileges given ps p = fold (with_privilege given) p ps
 
 -- ---- entries of users
 
+-- the entry is of that table
 abbrev pub is_grant_on : List ℕ → Grant → Bool
 is_grant_on n g = bytes_eq g.table n
 
+-- what an entry gives, if there is one
 abbrev pub privileges_in : Option Grant → Privileges
 privileges_in None = no_privileges
 privileges_in (Some g) = g.privileges
@@ -49,12 +53,15 @@ privileges_on n u = privileges_among u.privileges n
 abbrev pub kept_grant : Grant → List Grant → List Grant
 kept_grant g gs = if has_none g.privileges then without (is_grant_on g.table) gs else put (is_grant_on g.table) g gs
 
+-- the user with these privileges on the table, in place of those before
 abbrev pub with_granted : List ℕ → Privileges → User → User
 with_granted n p u = record u { privileges = kept_grant (record { table = n; privileges = p }) u.privileges }
 
+-- the user has an entry for the table
 abbrev pub has_grant_on : List ℕ → User → Bool
 has_grant_on n u = is_some (find (is_grant_on n) u.privileges)
 
+-- the user without an entry for the table
 abbrev pub without_grant : List ℕ → User → User
 without_grant n u = record u { privileges = without (is_grant_on n) u.privileges }
 
