@@ -16,3 +16,4 @@ pub mod Named
 pub mod Uses
 pub mod Refused
 pub mod Answer
+pub mod Frame
