@@ -41,8 +41,23 @@ module _ (c : Cred) (day : ℤ) (P Q : List ℕ → Option Policy) (T U : List �
   atom_same (atoms.SecLabelByName p l) h = λ i env. atom_value (record S { policies = λ n. h.0 i }) (atoms.SecLabelByName p l) env
   atom_same (atoms.SecLabelToChar p c) h = λ i env. atom_value (record S { policies = λ n. h.0 i }) (atoms.SecLabelToChar p c) env
 
+  policy_same : (x : Atom) → Agrees (SameIn R S) (in_atom x) → atom_policy R x ≡ atom_policy S x
+  policy_same atoms.Null h = refl
+  policy_same (atoms.Int n) h = refl
+  policy_same (atoms.Text t) h = refl
+  policy_same (atoms.Date d) h = refl
+  policy_same atoms.CurrentDate h = refl
+  policy_same atoms.SessionUser h = refl
+  policy_same (atoms.Column c) h = refl
+  policy_same atoms.CountRows h = refl
+  policy_same (atoms.VerifyRole roles) h = refl
+  policy_same (atoms.VerifyGroup groups) h = refl
+  policy_same (atoms.SecLabel p text) h = λ i env. h.0 i
+  policy_same (atoms.SecLabelByName p l) h = λ i env. h.0 i
+  policy_same (atoms.SecLabelToChar p c) h = refl
+
   expr_same : (x : Layer meaning layers.Expr-F) → Agrees (SameIn R S) (head_expr x) → (steps R).expr x ≡ (steps S).expr x
-  expr_same (layers.Expr-F.Atom x) h = λ i. record { value = atom_same x h i; policy = atom_policy x; sure = expr_sure (layers.Expr-F.Atom x); total = expr_total (layers.Expr-F.Atom x) }
+  expr_same (layers.Expr-F.Atom x) h = λ i. record { value = atom_same x h i; policy = policy_same x h i; sure = expr_sure (layers.Expr-F.Atom x); total = expr_total (layers.Expr-F.Atom x) }
   expr_same (layers.Expr-F.Sum ms) h = refl
   expr_same (layers.Expr-F.Concat ms) h = refl
   expr_same (layers.Expr-F.Product ms) h = refl

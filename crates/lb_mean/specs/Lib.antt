@@ -17,3 +17,4 @@ pub mod Uses
 pub mod Refused
 pub mod Answer
 pub mod Frame
+pub mod Laws

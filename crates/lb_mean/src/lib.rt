@@ -3,4 +3,4 @@
 
 mod laws;
 
-pub use laws::meaning_has_a_frame;
+pub use laws::{meaning_has_a_frame, queries_have_a_frame, two_worlds_answer_alike};
