@@ -4,3 +4,7 @@ pub mod Basis
 pub mod Candidates
 pub mod Checks
 pub mod Writes
+pub mod Bases
+pub mod Before
+pub mod Answer
+pub mod Laws
