@@ -1,4 +1,4 @@
-mod Framed
-mod Agreeing
-mod Meant
-mod Seen
+pub mod Framed
+pub mod Agreeing
+pub mod Meant
+pub mod Seen

@@ -22,7 +22,7 @@ use Rattle.lb_mean.specs.Setting.{Setting, Source, Env, given}
 use Rattle.lb_mean.specs.Labels.{is_readable}
 use Rattle.lb_mean.specs.Meaning.{means, says, answers}
 use Rattle.lb_mean.specs.Visible.{unguarded, guarded, whole_source, visible_source, mask_at, alone, passes_label, seen_column, seen_columns, policy_of_type, is_granted_by, is_permitted, is_visible, visible_rows, shown_value, shown_from, shown_values}
-use Rattle.lb_mean.specs.Ordered.{Sorter, sorter, sorts_by}
+use Rattle.lb_mean.specs.Ordered.{Sorter, sorter, sorts_by, chosen, chosen_by}
 use Rattle.lb_mean.specs.Output.{rows_told, rows_of_query}
 use Rattle.lb_mean.specs.Answer.{Checks, unless_refused, query_refused}
 use Rattle.lb_mean.specs.Frame.{Agrees, SameIn}
@@ -31,13 +31,13 @@ use Rattle.lb_mean.proofs.Agreeing.{first, second, both, weaker}
 use Rattle.lb_mean.proofs.Meant.{expr_of_session, cond_of_session, query_of_session}
 
 module _ (C D : Cat) (c : Cred) (T U : Tables) (day : ℤ) where
-  abbrev W : Setting
+  abbrev pub W : Setting
   W = unguarded C c T day
 
-  abbrev V : Setting
+  abbrev pub V : Setting
   V = unguarded D c U day
 
-  abbrev Same : Mentions → Type 0
+  abbrev pub Same : Mentions → Type 0
   Same = Agrees (SameRecord C D T U)
 
   -- read whole
@@ -156,10 +156,10 @@ module _ (C D : Cat) (c : Cred) (T U : Tables) (day : ℤ) where
 
   -- ---- settings of statements
 
-  abbrev G : Setting
+  abbrev pub G : Setting
   G = guarded C c T day
 
-  abbrev H : Setting
+  abbrev pub H : Setting
   H = guarded D c U day
 
   pub mention_same : (m : Mention) → SameMention C D T U m → SameIn G H m
@@ -171,20 +171,23 @@ module _ (C D : Cat) (c : Cred) (T U : Tables) (day : ℤ) where
 
   -- ---- answers
 
-  query_same : (s : Select) → Agrees (SameIn G H) (in_query s.query) → answers G s.query ≡ answers H s.query
+  pub query_same : (s : Select) → Agrees (SameIn G H) (in_query s.query) → answers G s.query ≡ answers H s.query
   query_same s = query_of_session c day G.policies H.policies G.sources H.sources s.query
 
-  abbrev keys_in : List SortKey → Mentions
+  abbrev pub keys_in : List SortKey → Mentions
   keys_in ks = flat_map in_key ks
 
-  order_same : (ks : List SortKey) → Agrees (SameIn G H) (keys_in ks) → map (sorter G) ks ≡ map (sorter H) ks
+  pub order_same : (ks : List SortKey) → Agrees (SameIn G H) (keys_in ks) → map (sorter G) ks ≡ map (sorter H) ks
   order_same [] h = refl
   order_same (k ∷ ks) h = λ i. record { by = sorts_by (out-Expr k.by); means = expr_of_session c day G.policies H.policies G.sources H.sources k.by (first (SameIn G H) (in_expr k.by) (keys_in ks) h) i; direction = k.direction } ∷ order_same ks (second (SameIn G H) (in_expr k.by) (keys_in ks) h) i
 
-  abbrev from_keys : Select → Mentions
+  abbrev pub from_keys : Select → Mentions
   from_keys s = keys_in s.order
 
-  -- what a query gives depends on what is seen
+  -- the rows or groups that a query chooses, and what it gives, depend on what is seen
+  pub chosen_same : (s : Select) → Agrees (SameIn G H) (in_select s) → chosen_by G s ≡ chosen_by H s
+  chosen_same s h = λ i. chosen (query_same s (first (SameIn G H) (in_query s.query) (from_keys s) h) i) (order_same s.order (second (SameIn G H) (in_query s.query) (from_keys s) h) i) s.fetch
+
   pub told_same : (s : Select) → Agrees (SameIn G H) (in_select s) → rows_told G s ≡ rows_told H s
   told_same s h = λ i. rows_of_query (query_same s (first (SameIn G H) (in_query s.query) (from_keys s) h) i) (order_same s.order (second (SameIn G H) (in_query s.query) (from_keys s) h) i) s.fetch
 
