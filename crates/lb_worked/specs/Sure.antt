@@ -33,3 +33,7 @@ selects c = reply (q ∷ []) rows (asked (select (item (col (codes "X")) ∷ [])
 -- WHERE X + 1 > 0 AND A = 1 gives no row: the part without arithmetic comes first, and isn't true
 abbrev pub SureFirst : Type 0
 SureFirst = selects (both overflows is_one) ≡ replies.Rows []
+
+-- WHERE NOT (A = 1 AND X + 1 > 0) overflows: under NOT the list goes from left to right, past unknown
+abbrev pub UnderNot : Type 0
+UnderNot = selects (no (both is_one overflows)) ≡ replies.Refused refusals.Overflow
