@@ -1,31 +1,28 @@
 -- Columns looked up by name in an environment, and expressions without parts.
-use Rattle.std.specs.Prelude.{ℕ, pos, Bool, List, [], ◌∷◌, length, find, Option, None, Some, is_some, if◌then◌else◌, Ok}
+use Rattle.std.specs.Prelude.{ℕ, pos, Bool, List, [], ◌∷◌, length, find, Option, None, Some, if◌then◌else◌, Ok}
 use Rattle.std.specs.List.{list_any}
 use Rattle.std.specs.Option.{option_or}
 use Rattle.std.specs.Str.{bytes_eq}
-use Rattle.lb_base.specs.declared.key.Ty.{Ty}
-use Rattle.lb_base.specs.declared.key.Ty.TheVariants as types
 use Rattle.lb_base.specs.declared.value.Value.{Value}
 use Rattle.lb_base.specs.declared.value.Value.TheVariants as values
 use Rattle.lb_base.specs.Evaluated.{Evaluated, ◌>>=◌}
 use Rattle.lb_tree.specs.declared.query.Atom.{Atom}
 use Rattle.lb_tree.specs.declared.query.Atom.TheVariants as atoms
 use Rattle.lb_tree.specs.declared.query.Column.{Column}
-use Rattle.lb_cat.specs.declared.catalog.ColumnRec.{ColumnRec}
-use Rattle.lb_cat.specs.Catalog.{is_column, is_among}
-use Rattle.lb_mean.specs.Setting.{Setting, Piece, JoinedRow, Frame, Env}
+use Rattle.lb_cat.specs.Catalog.{Policy, is_among}
+use Rattle.lb_mean.specs.Setting.{Setting, SeenColumn, Piece, JoinedRow, Frame, Env}
 use Rattle.lb_mean.specs.Labels.{label_of_text, label_by_name, label_to_char}
 
 -- ---- columns
 
--- a table with these columns has one of that name
-abbrev pub has_column : List ℕ → List ColumnRec → Bool
-has_column n columns = is_some (find (is_column n) columns)
+-- the column has that name
+abbrev pub is_called : List ℕ → SeenColumn → Bool
+is_called n c = bytes_eq c.name n
 
 -- a column belongs to the table with the correlation name that is written before it, and a bare one to a table with a column of its name
 abbrev pub is_in : Option (List ℕ) → List ℕ → Piece → Bool
 is_in (Some correlation) n p = bytes_eq p.correlation correlation
-is_in None n p = has_column n p.columns
+is_in None n p = list_any (is_called n) p.columns
 
 -- the row that a column belongs to: that of the innermost query with one
 abbrev pub piece_of : Column → Env → Option Piece
@@ -33,8 +30,8 @@ piece_of c [] = None
 piece_of c (f ∷ env) = option_or (find (is_in c.correlation c.name) f.row) (piece_of c env)
 
 -- The value of the column with that name. A row has a value for each column of its table, so null never stands for one that is missing.
-abbrev pub cell_named : List ℕ → List ColumnRec → List (Evaluated Value) → Evaluated Value
-cell_named n (c ∷ columns) (x ∷ cells) = if is_column n c then x else cell_named n columns cells
+abbrev pub cell_named : List ℕ → List SeenColumn → List (Evaluated Value) → Evaluated Value
+cell_named n (c ∷ columns) (x ∷ cells) = if is_called n c then x else cell_named n columns cells
 cell_named n _ _ = Ok values.Null
 
 -- the value in the row that the column belongs to; a name that belongs to none is refused before
@@ -46,20 +43,15 @@ cell_in n (Some p) = cell_named n p.columns p.cells
 abbrev pub column_value : Column → Env → Evaluated Value
 column_value c env = cell_in c.name (piece_of c env)
 
--- the policy of a label column's type
-abbrev pub policy_of_type : Ty → Option (List ℕ)
-policy_of_type (types.Label policy) = Some policy
-policy_of_type _ = None
+-- the policy whose labels a column holds
+abbrev pub policy_held : Option SeenColumn → Option Policy
+policy_held None = None
+policy_held (Some c) = c.policy
 
--- the policy of a column's type
-abbrev pub policy_of_column : Option ColumnRec → Option (List ℕ)
-policy_of_column None = None
-policy_of_column (Some c) = policy_of_type c.ty
-
--- the policy of the labels in a column of the row
-abbrev pub policy_in : List ℕ → Option Piece → Option (List ℕ)
+-- the policy whose labels the column with that name holds, in the row that it belongs to
+abbrev pub policy_in : List ℕ → Option Piece → Option Policy
 policy_in n None = None
-policy_in n (Some p) = policy_of_column (find (is_column n) p.columns)
+policy_in n (Some p) = policy_held (find (is_called n) p.columns)
 
 -- ---- groups
 
@@ -100,8 +92,8 @@ atom_value S (atoms.SecLabelByName policy label) env = Ok (label_by_name (S.poli
 atom_value S (atoms.SecLabelToChar policy c) env = column_value c env >>= λ x. Ok (label_to_char S.cred (S.policies policy) x)
 
 -- the policy of an expression whose value is a label: of a column its type's, of SECLABEL and SECLABEL_BY_NAME the one they name
-abbrev pub atom_policy : Atom → Env → Option (List ℕ)
-atom_policy (atoms.Column c) env = policy_in c.name (piece_of c env)
-atom_policy (atoms.SecLabel policy text) env = Some policy
-atom_policy (atoms.SecLabelByName policy label) env = Some policy
-atom_policy _ env = None
+abbrev pub atom_policy : Setting → Atom → Env → Option Policy
+atom_policy S (atoms.Column c) env = policy_in c.name (piece_of c env)
+atom_policy S (atoms.SecLabel policy text) env = S.policies policy
+atom_policy S (atoms.SecLabelByName policy label) env = S.policies policy
+atom_policy S _ env = None

@@ -13,6 +13,7 @@ use Rattle.lb_tree.specs.declared.query.Function.{Function}
 use Rattle.lb_tree.specs.declared.query.Function.TheVariants as functions
 use Rattle.lb_tree.specs.declared.query.Cond.TheOpen as layers
 use Rattle.lb_tree.specs.Folds.{Layer}
+use Rattle.lb_cat.specs.Catalog.{Policy}
 use Rattle.lb_mean.specs.Setting.{Setting, Env}
 use Rattle.lb_mean.specs.Environment.{group_of, outside, atom_value, atom_policy}
 use Rattle.lb_mean.specs.Meant.{Means, Arms, Chooses, Signs, meaning}
@@ -123,13 +124,13 @@ expr_value S (layers.Expr-F.Apply f m) env = m.value env >>= λ x. Ok (applied f
 expr_value S (layers.Expr-F.Coalesce ms) env = first_known ms env
 
 -- the policy of an expression whose value is a label: only a column and the calls that make labels can be one
-abbrev pub expr_policy : Layer meaning layers.Expr-F → Env → Option (List ℕ)
-expr_policy (layers.Expr-F.Atom x) env = atom_policy x env
-expr_policy _ env = None
+abbrev pub expr_policy : Setting → Layer meaning layers.Expr-F → Env → Option Policy
+expr_policy S (layers.Expr-F.Atom x) env = atom_policy S x env
+expr_policy S _ env = None
 
 -- what an expression means
 abbrev pub expr_step : Setting → Layer meaning layers.Expr-F → Means
-expr_step S x = record { value = expr_value S x; policy = expr_policy x; sure = expr_sure x; total = expr_total x }
+expr_step S x = record { value = expr_value S x; policy = expr_policy S x; sure = expr_sure x; total = expr_total x }
 
 -- what an arm of a CASE without operand means
 abbrev pub arm_step : Layer meaning layers.Arm-F → Arms

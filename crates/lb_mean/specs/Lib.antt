@@ -16,3 +16,5 @@ pub mod Named
 pub mod Uses
 pub mod Refused
 pub mod Answer
+pub mod Frame
+pub mod Laws

@@ -4,13 +4,14 @@ use Rattle.lb_base.specs.declared.value.Value.{Value}
 use Rattle.lb_base.specs.declared.truth.Truth.{Truth}
 use Rattle.lb_base.specs.Evaluated.{Evaluated}
 use Rattle.lb_tree.specs.Folds.{Kinds}
+use Rattle.lb_cat.specs.Catalog.{Policy}
 use Rattle.lb_mean.specs.Setting.{Env, Frame, JoinedRow}
 
 -- An expression: its value; the policy of a value that is a label; whether it is sure, that is has neither arithmetic nor a
 -- subquery; and whether it has an aggregate.
 pub record Means : Type 0 where
   pub value : Env → Evaluated Value
-  pub policy : Env → Option (List ℕ)
+  pub policy : Env → Option Policy
   pub sure : Bool
   pub total : Bool
 
@@ -44,7 +45,7 @@ pub record Signs : Type 0 where
 -- an item of a select list: its values, the policy of each that is a label, its output name, and whether it has an aggregate
 pub record Shows : Type 0 where
   pub values : Env → List (Evaluated Value)
-  pub policies : Env → List (Option (List ℕ))
+  pub policies : Env → List (Option Policy)
   pub name : Option (List ℕ)
   pub total : Bool
 

@@ -5,7 +5,7 @@ use Rattle.std.specs.Str.{bytes_eq}
 use Rattle.lb_tree.specs.declared.query.Column.{Column}
 use Rattle.lb_tree.specs.declared.query.Tab.{Tab}
 use Rattle.lb_cat.specs.declared.catalog.ColumnRec.{ColumnRec}
-use Rattle.lb_mean.specs.Environment.{has_column}
+use Rattle.lb_cat.specs.Catalog.{is_column}
 use Rattle.lb_mean.specs.Joined.{correlation_of}
 
 -- a table of FROM, with the columns of its record
@@ -95,7 +95,7 @@ name_of_item item = correlation_of item.tab
 -- a column belongs to the table: by the correlation name that is written before it, and a bare one by its name
 abbrev pub belongs_by : Option (List ℕ) → List ℕ → FromItem → Bool
 belongs_by (Some correlation) n item = bytes_eq (name_of_item item) correlation
-belongs_by None n item = has_column n item.columns
+belongs_by None n item = list_any (is_column n) item.columns
 
 -- the same of a column as it is written
 abbrev pub belongs : FromItem → Named → Bool

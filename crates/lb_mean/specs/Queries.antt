@@ -10,8 +10,9 @@ use Rattle.lb_base.specs.Truths.{is_true}
 use Rattle.lb_tree.specs.declared.query.Column.{Column}
 use Rattle.lb_tree.specs.declared.query.Cond.TheOpen as layers
 use Rattle.lb_tree.specs.Folds.{Layer}
+use Rattle.lb_cat.specs.Catalog.{Policy}
 use Rattle.lb_mean.specs.Setting.{Env, Frame, JoinedRow, Piece, row_frame}
-use Rattle.lb_mean.specs.Environment.{column_value, policy_of_type}
+use Rattle.lb_mean.specs.Environment.{column_value}
 use Rattle.lb_mean.specs.Meant.{Says, Part, Shows, Chains, Answers, meaning}
 use Rattle.lb_mean.specs.Conditions.{is_listed}
 use Rattle.lb_mean.specs.Joined.{joined}
@@ -105,8 +106,8 @@ own_row [] = []
 own_row (f ∷ env) = f.row
 
 -- the policy of each column of a table that holds labels
-abbrev pub policies_of : Piece → List (Option (List ℕ))
-policies_of p = map (λ c. policy_of_type c.ty) p.columns
+abbrev pub policies_of : Piece → List (Option Policy)
+policies_of p = map (λ c. c.policy) p.columns
 
 -- all columns of the tables that `*` or `name.*` stands for
 abbrev pub all_columns : (Piece → Bool) → Shows

@@ -2,14 +2,18 @@
 use Rattle.std.specs.Prelude.{ℕ, List, [], ◌∷◌, map, Option, Ok, ℤ}
 use Rattle.lb_base.specs.declared.value.Value.{Value}
 use Rattle.lb_base.specs.Evaluated.{Evaluated}
-use Rattle.lb_cat.specs.declared.catalog.ColumnRec.{ColumnRec}
 use Rattle.lb_cat.specs.declared.cred.Cred.{Cred}
 use Rattle.lb_cat.specs.Catalog.{Policy}
+
+-- a column of a table: its name, and the policy whose labels it holds, if it holds labels
+pub record SeenColumn : Type 0 where
+  pub name : List ℕ
+  pub policy : Option Policy
 
 -- What is seen of a table: its columns; its rows, or the fault of a permission; and what the outputs of a statement show of
 -- the values of a row, each of which may be the fault of a mask.
 pub record Source : Type 0 where
-  pub columns : List ColumnRec
+  pub columns : List SeenColumn
   pub rows : Evaluated (List (List Value))
   pub shown : List Value → List (Evaluated Value)
 
@@ -27,7 +31,7 @@ pub record Setting : Type 0 where
 -- show of these. A value may be a fault, since a mask that stands for a column fails only where the column is asked for.
 pub record Piece : Type 0 where
   pub correlation : List ℕ
-  pub columns : List ColumnRec
+  pub columns : List SeenColumn
   pub cells : List (Evaluated Value)
   pub shown : List (Evaluated Value)
 
