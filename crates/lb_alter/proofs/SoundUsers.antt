@@ -111,7 +111,7 @@ once_all P [] h = tt
 once_all P (k ∷ ks) h = (h.0, all_filter P (λ x. not (same_key x k)) (once ks) (once_all P ks h.1))
 
 -- dependencies are tables, policies and components
-deps_all : (P : Key → Type 0) → ((n : List ℕ) → P (keys.Table n)) → ((n : List ℕ) → P (keys.Policy n)) → ((n : List ℕ) → P (keys.Component n))
+pub deps_all : (P : Key → Type 0) → ((n : List ℕ) → P (keys.Table n)) → ((n : List ℕ) → P (keys.Policy n)) → ((n : List ℕ) → P (keys.Component n))
     → (C : Cat) (ms : Mentions) → AllByRecursion P (deps_of C ms)
 deps_all P t p c C ms = once_all P _
     (all_append P _ _ (all_mapped_to P (λ n. keys.Table n) t (tables_for C ms))

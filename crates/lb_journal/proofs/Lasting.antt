@@ -15,7 +15,7 @@ use Rattle.lb_alter.specs.Fits.{CredFits, TablesFit}
 use Rattle.lb_alter.specs.Frame.{SameRecord, SameOn}
 use Rattle.lb_alter.proofs.SoundUsers.{deps_all}
 use Rattle.lb_alter.proofs.Steady.{deps_stay}
-use Rattle.lb_journal.specs.Rules.{answer}
+use Rattle.lb_journal.specs.Rules.{answered_to}
 use Rattle.lb_journal.specs.State.{State}
 use Rattle.lb_journal.specs.Replay.{Runs, Replay}
 use Rattle.lb_journal.specs.Laws.{is_user_key, SameAt}

@@ -15,7 +15,8 @@ use Rattle.lb_cat.specs.Keys.{has_key}
 use Rattle.lb_alter.specs.Refusing.{Changed}
 use Rattle.lb_alter.specs.Frame.{SameRecord, SameRows}
 use Rattle.lb_alter.proofs.Untouched.{or_left, turned, put_other, untouched_stays}
-use Rattle.lb_journal.specs.Rules.{Answered, stored_rules, answer}
+use Rattle.lb_answer.specs.Answer.{Answered}
+use Rattle.lb_journal.specs.Rules.{stored_rules, answered_to}
 use Rattle.lb_journal.specs.State.{State, first, put_maybe, rows_touched, answered, outcome, step, is_there, stamp_after, left_by, after}
 use Rattle.lb_journal.specs.Replay.{Steps, Runs, Replay}
 use Rattle.lb_journal.specs.Laws.{is_user_key, SameAt, StampsTell, SameStampSameRecord}
@@ -66,10 +67,10 @@ answered_stays C T a k h = go a.table k h
 step_stays : (S : State) (user : List ℕ) (groups : List (List ℕ)) (day : ℤ) (s : Stmt) (k : Key) → has_key k (step S user groups day s).touched ≡ false
     → SameRecord S.cat (step S user groups day s).cat k × SameRows S.tables (step S user groups day s).tables k
 step_stays S user groups day (stmts.Change c) k h = untouched_stays stored_rules S.cat S.tables user c k h
-step_stays S user groups day (stmts.Select s) k h = answered_stays S.cat S.tables (answer S.cat (cred S.cat user groups) S.tables day (stmts.Select s)) k h
-step_stays S user groups day (stmts.Insert s) k h = answered_stays S.cat S.tables (answer S.cat (cred S.cat user groups) S.tables day (stmts.Insert s)) k h
-step_stays S user groups day (stmts.Update s) k h = answered_stays S.cat S.tables (answer S.cat (cred S.cat user groups) S.tables day (stmts.Update s)) k h
-step_stays S user groups day (stmts.Delete s) k h = answered_stays S.cat S.tables (answer S.cat (cred S.cat user groups) S.tables day (stmts.Delete s)) k h
+step_stays S user groups day (stmts.Select s) k h = answered_stays S.cat S.tables (answered_to S.cat (cred S.cat user groups) S.tables day (stmts.Select s)) k h
+step_stays S user groups day (stmts.Insert s) k h = answered_stays S.cat S.tables (answered_to S.cat (cred S.cat user groups) S.tables day (stmts.Insert s)) k h
+step_stays S user groups day (stmts.Update s) k h = answered_stays S.cat S.tables (answered_to S.cat (cred S.cat user groups) S.tables day (stmts.Update s)) k h
+step_stays S user groups day (stmts.Delete s) k h = answered_stays S.cat S.tables (answered_to S.cat (cred S.cat user groups) S.tables day (stmts.Delete s)) k h
 
 -- What an entry does to a key: it touches it, and then the key is new or gone; or it leaves its record and rows, and its stamp where it is there.
 By : ℕ → Key → State → State → Type 0

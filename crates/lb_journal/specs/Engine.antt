@@ -7,7 +7,8 @@ use Rattle.lb_cat.specs.declared.cred.Cred.{Cred}
 use Rattle.lb_cat.specs.Catalog.{Cat}
 use Rattle.lb_alter.specs.Fits.{CredFits, TablesFit}
 use Rattle.lb_alter.specs.Deps.{deps}
-use Rattle.lb_journal.specs.Rules.{Answered, answer}
+use Rattle.lb_answer.specs.Answer.{Answered}
+use Rattle.lb_journal.specs.Rules.{answered_to}
 
 -- what a plan of an engine answers to a session, over tables, on a day
 abbrev pub Meaning : Type 0 → Type 0
@@ -21,10 +22,10 @@ Condition P = P → Cred → Tables → Type 0
 -- day of the calendar, the plan may be run, and answers what the statement answers.
 unfoldable pub RightFor : {P : Type 0} → Meaning P → Condition P → P → Cat → Stmt → Type 0
 RightFor means takes p C s =
-    (c : Cred) (T : Tables) (day : ℤ) → CredFits (deps C s) C c → TablesFit (deps C s) C T → IsDay day → takes p c T × (means p c T day ≡ answer C c T day s)
+    (c : Cred) (T : Tables) (day : ℤ) → CredFits (deps C s) C c → TablesFit (deps C s) C T → IsDay day → takes p c T × (means p c T day ≡ answered_to C c T day s)
 
 -- what a plan that is right gives for one session, the tables and the day
 abbrev pub RightGives : {P : Type 0} → Meaning P → Condition P → Type 0
 RightGives {P = P} means takes =
     (p : P) (C : Cat) (s : Stmt) (c : Cred) (T : Tables) (day : ℤ)
-    → RightFor means takes p C s → CredFits (deps C s) C c → TablesFit (deps C s) C T → IsDay day → takes p c T × (means p c T day ≡ answer C c T day s)
+    → RightFor means takes p C s → CredFits (deps C s) C c → TablesFit (deps C s) C T → IsDay day → takes p c T × (means p c T day ≡ answered_to C c T day s)

@@ -10,7 +10,7 @@ use Rattle.lb_cat.specs.declared.entry.Entry.{Entry}
 use Rattle.lb_alter.specs.Deps.{deps}
 use Rattle.lb_alter.specs.Frame.{SameOn}
 use Rattle.lb_alter.specs.Sound.{IsSound}
-use Rattle.lb_journal.specs.Rules.{stored_rules, answer}
+use Rattle.lb_journal.specs.Rules.{stored_rules, answered_to}
 use Rattle.lb_journal.specs.State.{State}
 use Rattle.lb_journal.specs.Replay.{Runs, Replay}
 use Rattle.lb_journal.specs.Engine.{Meaning, Condition, RightFor}
@@ -28,4 +28,4 @@ RightLasts {P = P} means takes =
 
 -- equal records under what a statement depends on give it one answer
 abbrev pub AnswerStays : Type 0
-AnswerStays = (C D : Cat) (c : Cred) (T : Tables) (day : ℤ) (s : Stmt) → SameOn (deps C s) C D → answer C c T day s ≡ answer D c T day s
+AnswerStays = (C D : Cat) (c : Cred) (T : Tables) (day : ℤ) (s : Stmt) → SameOn (deps C s) C D → answered_to C c T day s ≡ answered_to D c T day s

@@ -8,7 +8,8 @@ use Rattle.lb_rows.specs.Tables.{Tables, Version, is_version, put_version}
 use Rattle.lb_cat.specs.Catalog.{Cat, first_cat, table_named, policy_named, component_named, user_named}
 use Rattle.lb_cat.specs.Credentials.{cred}
 use Rattle.lb_cat.specs.Keys.{has_key}
-use Rattle.lb_journal.specs.Rules.{Answered, answer, changed}
+use Rattle.lb_answer.specs.Answer.{Answered}
+use Rattle.lb_journal.specs.Rules.{answered_to, changed}
 use Rattle.lb_alter.specs.Refusing.{Changed}
 
 -- The catalogue, the rows, and of each key its stamp: one more than the place of the last entry that touched it. It is 0 where no
@@ -39,7 +40,7 @@ answered C T a = record { cat = C; tables = put_maybe a.table T; touched = rows_
 -- what a statement of the user with these groups, on that day, answers and leaves
 abbrev pub outcome : Cat → Tables → List ℕ → List (List ℕ) → ℤ → Stmt → Changed
 outcome C T user groups day (stmts.Change c) = changed C T user c
-outcome C T user groups day s = answered C T (answer C (cred C user groups) T day s)
+outcome C T user groups day s = answered C T (answered_to C (cred C user groups) T day s)
 
 abbrev pub step : State → List ℕ → List (List ℕ) → ℤ → Stmt → Changed
 step S user groups day s = outcome S.cat S.tables user groups day s

@@ -6,7 +6,7 @@ pub trait Engine {
     ghost use Rattle.std.specs.Prelude.{ℤ};
     ghost use Rattle.lb_rows.specs.Tables.{Tables};
     ghost use Rattle.lb_cat.specs.declared.cred.Cred.{Cred};
-    ghost use Rattle.lb_journal.specs.Rules.{Answered};
+    ghost use Rattle.lb_answer.specs.Answer.{Answered};
 
     type Plan: Send + Sync + Drop;
 
