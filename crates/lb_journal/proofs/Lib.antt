@@ -4,3 +4,4 @@ pub mod Stamps
 pub mod There
 pub mod FitsBack
 pub mod Lasting
+pub mod Agreeing
