@@ -5,4 +5,6 @@ pub mod Sighted
 pub mod NamesFrame
 pub mod OneForm
 pub mod QualifiedFrame
+pub mod Carried
+pub mod Alike
 pub mod Computed
