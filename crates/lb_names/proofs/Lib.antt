@@ -7,4 +7,8 @@ pub mod OneForm
 pub mod QualifiedFrame
 pub mod Carried
 pub mod Alike
+pub mod AlikeLists
+pub mod AlikeSteps
+pub mod OneType
+pub mod TypesFrame
 pub mod Computed

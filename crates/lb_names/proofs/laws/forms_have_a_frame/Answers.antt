@@ -1,6 +1,4 @@
 use Rattle.lb_names.proofs.QualifiedFrame.{permission_same, mask_same}
-use Rattle.lb_names.proofs.Carried.{carried_cond}
-use Rattle.lb_names.proofs.Alike.{same_alike}
 use Rattle.lb_names.proofs.laws.forms_have_a_frame.Goals as goal
 
 pub returns : goal.returns
