@@ -5,4 +5,10 @@ pub mod Sighted
 pub mod NamesFrame
 pub mod OneForm
 pub mod QualifiedFrame
+pub mod Carried
+pub mod Alike
+pub mod AlikeLists
+pub mod AlikeSteps
+pub mod OneType
+pub mod TypesFrame
 pub mod Computed

@@ -294,7 +294,7 @@ module _ (C D : Catalogue) where
   pub sighted_query : (x : Query) → GoodQuery x
   sighted_query = ind-Query GoodCond GoodExpr GoodItem GoodJoin GoodArm GoodChain GoodChoice GoodQuery GoodSigned (λ x y is. subst (λ z. GoodCond (roll-Cond z)) is (cond_good y)) (λ x y is. subst (λ z. GoodExpr (roll-Expr z)) is (expr_good y)) (λ x y is. subst (λ z. GoodItem (roll-Item z)) is (item_good y)) (λ x y is. subst (λ z. GoodJoin (roll-Join z)) is (join_good y)) (λ x y is. subst (λ z. GoodArm (roll-Arm z)) is (arm_good y)) (λ x y is. subst (λ z. GoodChain (roll-Chain z)) is (chain_good y)) (λ x y is. subst (λ z. GoodChoice (roll-Choice z)) is (choice_good y)) (λ x y is. subst (λ z. GoodQuery (roll-Query z)) is (query_good y.distinct y.items y.from y.filter y.group y.having)) (λ x y is. subst (λ z. GoodSigned (roll-Signed z)) is (signed_good y))
 
-  from_chains : (cs : List Chain) → AgreeOn C D (all_of (map n_chain cs)) → ChainsAgree (map m_chain cs)
+  pub from_chains : (cs : List Chain) → AgreeOn C D (all_of (map n_chain cs)) → ChainsAgree (map m_chain cs)
   from_chains [] h = tt
   from_chains (c ∷ cs) h = (sighted_chain c (front (n_chain c) (all_of (map n_chain cs)) h), from_chains cs (back (n_chain c) (all_of (map n_chain cs)) h))
 

@@ -5,12 +5,12 @@ use Rattle.lb_tree.specs.declared.query.Cond.{Cond}
 use Rattle.lb_tree.specs.declared.query.Expr.{Expr}
 use Rattle.lb_tree.specs.declared.query.Query.{Query}
 use Rattle.lb_stmt.specs.declared.write.Stmt.{Stmt}
-use Rattle.lb_names.specs.Sights.{Sight}
+use Rattle.lb_names.specs.Sights.{Name, Sight}
 use Rattle.lb_names.specs.Marks.{cond_marks, expr_marks, query_marks}
 use Rattle.lb_names.specs.StatementMarks.{marks_of}
 use Rattle.lb_names.specs.Mentions.{table, in_cond, in_expr, in_query, in_stmt, mentions}
 use Rattle.lb_names.specs.Scopes.{Catalogue}
-use Rattle.lb_names.specs.Statements.{names_refused, permission_names_refused, permission_qualified, mask_names_refused, mask_qualified}
+use Rattle.lb_names.specs.Statements.{names_refused, types_refused, permission_names_refused, permission_types_refused, permission_qualified, mask_names_refused, mask_types_refused, mask_qualified}
 use Rattle.lb_names.specs.Agreeing.{AgreeOn}
 
 -- what is mentioned is what the marks mention, in their order, wherever a part stands
@@ -25,6 +25,12 @@ pub record NamesHaveAFrame (C D : Catalogue) : Type 0 where
   pub stmt : (s : Stmt) → AgreeOn C D (in_stmt s) → names_refused C s ≡ names_refused D s
   pub permission : (tab : Tab) (c : Cond) → AgreeOn C D (table tab.table ∷ in_cond c) → permission_names_refused C tab c ≡ permission_names_refused D tab c
   pub mask : (tab : Tab) (e : Expr) → AgreeOn C D (table tab.table ∷ in_expr e) → mask_names_refused C tab e ≡ mask_names_refused D tab e
+
+-- and the same for types
+pub record TypesHaveAFrame (C D : Catalogue) : Type 0 where
+  pub stmt : (s : Stmt) → AgreeOn C D (in_stmt s) → types_refused C s ≡ types_refused D s
+  pub permission : (tab : Tab) (c : Cond) → AgreeOn C D (table tab.table ∷ in_cond c) → permission_types_refused C tab c ≡ permission_types_refused D tab c
+  pub mask : (tab : Tab) (column : Name) (e : Expr) → AgreeOn C D (table tab.table ∷ in_expr e) → mask_types_refused C tab column e ≡ mask_types_refused D tab column e
 
 -- and they give one qualified form
 pub record FormsHaveAFrame (C D : Catalogue) : Type 0 where

@@ -2,7 +2,7 @@
 ghost use Rattle.std.specs.Prelude.{◌≡◌, Some, None, [], ◌∷◌, true};
 ghost use Rattle.lb_names.specs.declared.refused.Refused.TheVariants.{BadLabel, Exists, Types, Unknown};
 ghost use Rattle.lb_names.specs.Examples as e;
-ghost use Rattle.lb_names.specs.Laws.{FormsHaveAFrame, MentionsAreMarked, NamesHaveAFrame};
+ghost use Rattle.lb_names.specs.Laws.{FormsHaveAFrame, MentionsAreMarked, NamesHaveAFrame, TypesHaveAFrame};
 ghost use Rattle.lb_names.specs.Scopes.{Catalogue};
 ghost use Rattle.lb_names.specs.Small.{a, b, k, small, table, w, x};
 ghost use Rattle.lb_names.specs.StatementMarks.{marks_of};
@@ -17,6 +17,11 @@ pub fn mentions_are_marked()
 /// The first refusal for names depends on the catalogue by what is mentioned alone.
 pub fn names_have_a_frame()
     ensures { (C D : Catalogue) → NamesHaveAFrame C D }
+{}
+
+/// The first refusal for types depends on the catalogue by what is mentioned alone.
+pub fn types_have_a_frame()
+    ensures { (C D : Catalogue) → TypesHaveAFrame C D }
 {}
 
 /// The qualified form of a permission or a mask depends on the catalogue by what is mentioned alone.
