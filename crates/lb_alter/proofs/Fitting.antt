@@ -20,13 +20,13 @@ use Rattle.lb_rows.specs.KeyValues.{is_null, keys_differ}
 use Rattle.lb_rows.specs.Tables.{Tables, Version, is_version}
 use Rattle.lb_cat.specs.Catalog.{Cat, Table, Policy, User, table_named, policy_named, label_named, user_named, is_label, is_policy, first_cat, no_user}
 use Rattle.lb_cat.specs.Credentials.{label_in, parts_in, cred_label, cred}
-use Rattle.lb_alter.specs.Stored.{Checks}
 use Rattle.lb_alter.specs.ChangeTable.{is_label_column, is_label_type}
 use Rattle.lb_alter.specs.Fits.{IsLabelIfHeld, FitsPolicy, FitsIfThere, CredFitsKey, CredFits, IsLabelOf, HasType, FitsColumn, FitsTable, RowsFit, FitsRecord, TablesFitKey, TablesFit}
-use Rattle.lb_alter.specs.Sound.{IsSound}
 use Rattle.lb_alter.specs.Laws.{CredentialsFit, FirstTablesFit, AllTablesFit}
-use Rattle.lb_alter.proofs.SoundUsers.{all_found, all_follow}
+use Rattle.lb_alter.specs.Sound.{IsSound}
+use Rattle.lb_alter.specs.Stored.{Checks}
 use Rattle.lb_alter.proofs.SoundParts.{PolicyIsSound, Parts, apart}
+use Rattle.lb_alter.proofs.SoundUsers.{all_found, all_follow}
 use Rattle.lb_alter.proofs.Untouched.{named_there, put_other}
 
 -- ---- credentials

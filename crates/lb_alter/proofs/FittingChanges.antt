@@ -33,25 +33,26 @@ use Rattle.lb_rows.specs.Tables.{Tables, Version, is_version, put_version, rows_
 use Rattle.lb_cat.specs.Catalog.{Cat, Table, Policy, Component, User, table_named, policy_named, component_named, is_table, is_column, is_policy, put_table, put_policy, drop_table, drop_policy}
 use Rattle.lb_cat.specs.Privileges.{with_privileges, has_grant_on, without_grant}
 use Rattle.lb_cat.specs.Holdings.{has_holding_of, without_holding, is_same_name}
-use Rattle.lb_alter.specs.Stored.{Checks, stored_name, user_of_table, calls_policy}
-use Rattle.lb_alter.specs.Refusing.{Changed, OrRefused, ◌>>=◌, ◌>>◌, when, found, owner, secadm, done, alters, alters_policy, settled}
-use Rattle.lb_alter.specs.ChangeTable.{with_null, plain_type, plain_column, is_label_column, is_label_type, new_table, create_table, in_use, user_key, drop_table_of, secure, change_column, columns_in, is_key}
-use Rattle.lb_alter.specs.ChangeControl.{has_permission, has_mask, with_acts}
-use Rattle.lb_alter.specs.ChangeLabel.{kind_of_definition, elements_of, with_elements, has_policy, table_name, new_policy}
-use Rattle.lb_alter.specs.ChangeGrant.{grants, revokes, taken_from, user_or_new, grant_to, revoke_from, with_user_privileges}
+use Rattle.lb_alter.specs.AlterTable.{with_null, plain_column, secure, change_column}
 use Rattle.lb_alter.specs.Change.{attempt}
+use Rattle.lb_alter.specs.ChangeControl.{has_permission, has_mask, with_acts}
+use Rattle.lb_alter.specs.ChangeGrant.{grants, revokes, taken_from, user_or_new, grant_to, revoke_from, with_user_privileges}
+use Rattle.lb_alter.specs.ChangePolicy.{kind_of_definition, elements_of, with_elements, has_policy, table_name, new_policy}
+use Rattle.lb_alter.specs.ChangeTable.{plain_type, is_label_column, is_label_type, new_table, create_table, user_key, drop_table_of, columns_in, is_key}
 use Rattle.lb_alter.specs.Fits.{IsLabelOf, FitsColumn, FitsTable, RowsFit, FitsRecord}
 use Rattle.lb_alter.specs.Labelled.{ColumnBelongs, LabelsBelong, IsOfPolicy}
-use Rattle.lb_alter.specs.Named.{AreDifferent}
-use Rattle.lb_alter.specs.Sound.{IsSound}
 use Rattle.lb_alter.specs.Laws.{TablesStayFit, AllTablesFit}
-use Rattle.lb_alter.proofs.SoundUsers.{all_found, all_follow}
-use Rattle.lb_alter.proofs.SoundTables.{put_case, found_put, found_without, same_put, refitted}
+use Rattle.lb_alter.specs.Named.{AreDifferent}
+use Rattle.lb_alter.specs.Refusing.{Changed, OrRefused, ◌>>=◌, ◌>>◌, when, found, owner, secadm, done, alters, alters_policy, settled, in_use}
+use Rattle.lb_alter.specs.Sound.{IsSound}
+use Rattle.lb_alter.specs.Stored.{Checks, stored_name, user_of_table, calls_policy}
+use Rattle.lb_alter.proofs.Fitting.{EachFits, each_from, each_to, KeepsLabels, KeepsType, SameColumn, SameShape, Moves, record_moves, value_moves, row_moves, rows_move, all_move, keeps_all, keeps_each, itself_zipped, same_move}
 use Rattle.lb_alter.proofs.SoundAlters.{by_own_name, found_by_name, acts_case}
 use Rattle.lb_alter.proofs.SoundColumns.{same_type, same_null, length_more, plain_is}
 use Rattle.lb_alter.proofs.SoundKinds.{none_found, not_in_use, is_new, not_more}
 use Rattle.lb_alter.proofs.SoundLabels.{by_own_policy}
-use Rattle.lb_alter.proofs.Fitting.{EachFits, each_from, each_to, KeepsLabels, KeepsType, SameColumn, SameShape, Moves, record_moves, value_moves, row_moves, rows_move, all_move, keeps_all, keeps_each, itself_zipped, same_move}
+use Rattle.lb_alter.proofs.SoundTables.{put_case, found_put, found_without, same_put, refitted}
+use Rattle.lb_alter.proofs.SoundUsers.{all_found, all_follow}
 use Rattle.lb_alter.proofs.Untouched.{or_left, or_right, turned, named_there, put_other, without_other}
 
 -- ---- blocks

@@ -16,7 +16,7 @@ use Rattle.lb_label.specs.Component.{Definition, IsComponent, IsParent, empty_co
 use Rattle.lb_stmt.specs.declared.change.ComponentDef.{ComponentDef}
 use Rattle.lb_stmt.specs.declared.change.ComponentDef.TheVariants as definitions
 use Rattle.lb_stmt.specs.declared.change.TreeElement.{TreeElement}
-use Rattle.lb_alter.specs.ChangeLabel.{kind_of_definition, elements_of, element_refusal, with_elements}
+use Rattle.lb_alter.specs.ChangePolicy.{kind_of_definition, elements_of, element_refusal, with_elements}
 use Rattle.lb_alter.specs.Refusing.{OrRefused, ◌>>◌}
 
 -- ---- places in lists

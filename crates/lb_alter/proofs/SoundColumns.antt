@@ -18,11 +18,12 @@ use Rattle.lb_cat.specs.declared.refusal.Flaw.TheVariants as flaws
 use Rattle.lb_cat.specs.declared.refusal.LimitOf.TheVariants as limits
 use Rattle.lb_rows.specs.Tables.{Tables, put_version, rows_of}
 use Rattle.lb_cat.specs.Catalog.{Cat, Table, table_named, policy_named, is_column, column_named, is_among, put_table}
-use Rattle.lb_alter.specs.ChangeTable.{is_label_type, plain_type, plain_column, width_refusal, with_null, add_column, exists_already, add_policy, has_label, policy_of, secured_refusal, secure, change_column, secure_column, unsecure_column, is_label_column}
+use Rattle.lb_alter.specs.AlterTable.{plain_column, with_null, add_column, add_policy, secure, change_column, secure_column, unsecure_column}
+use Rattle.lb_alter.specs.ChangeTable.{is_label_type, plain_type, width_refusal, has_label, policy_of, secured_refusal, is_label_column}
 use Rattle.lb_alter.specs.Columns.{IsPlace, HasKeyColumn, IsUnsecuredLabel, is_label_at, IsNoLabelAt, HasFewColumns, IsWithinWidth, not_null_in}
 use Rattle.lb_alter.specs.Labelled.{IsLabelHere, IsOfPolicy, ColumnBelongs}
 use Rattle.lb_alter.specs.Named.{AreDifferent, are_different, IfGiven, HasPolicy}
-use Rattle.lb_alter.specs.Refusing.{when, alters}
+use Rattle.lb_alter.specs.Refusing.{exists_already, when, alters}
 use Rattle.lb_alter.specs.Sound.{IsSound}
 use Rattle.lb_alter.specs.Steady.{IsSameColumn, IsWider, IsSteady}
 use Rattle.lb_alter.specs.Stored.{Checks}

@@ -22,11 +22,12 @@ use Rattle.lb_rows.specs.Lists.{without}
 use Rattle.lb_cat.specs.Catalog.{Cat, Table, Policy, User, policy_named, label_named, is_label, is_policy, is_among, put_policy}
 use Rattle.lb_cat.specs.Holdings.{is_same_name, no_holding, holds_label}
 use Rattle.lb_names.specs.Mentions.{Mentions, table, policy, label, is_label_mention}
-use Rattle.lb_alter.specs.ChangeLabel.{has_policy, table_name, user_name, parts_refusal, part_for, part_of, listed_for, label_parts, create_label, holds, is_secured_with, secures_with, drop_label}
-use Rattle.lb_alter.specs.ChangeTable.{has_label, policy_of, in_use}
+use Rattle.lb_alter.specs.ChangeLabel.{user_name, parts_refusal, part_for, part_of, listed_for, label_parts, create_label, holds, is_secured_with, secures_with, drop_label}
+use Rattle.lb_alter.specs.ChangePolicy.{has_policy, table_name}
+use Rattle.lb_alter.specs.ChangeTable.{has_label, policy_of}
 use Rattle.lb_alter.specs.Labelled.{IsPolicyLabel, ColumnBelongs, LabelsBelong, HoldsLabels, HeldLabelsAreThere, StandsUnder}
 use Rattle.lb_alter.specs.Named.{AreDifferent, are_different, IfGiven, HasPolicy, HasDifferentLabels}
-use Rattle.lb_alter.specs.Refusing.{when, secadm}
+use Rattle.lb_alter.specs.Refusing.{in_use, when, secadm}
 use Rattle.lb_alter.specs.Sound.{IsSound}
 use Rattle.lb_alter.specs.Steady.{StaysNamed, IsSteady}
 use Rattle.lb_alter.specs.Stored.{Checks, mentioned_in, calls_label}

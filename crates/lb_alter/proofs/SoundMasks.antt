@@ -18,10 +18,9 @@ use Rattle.lb_rows.specs.Lists.{put}
 use Rattle.lb_cat.specs.Catalog.{Cat, Table, table_named, is_table, is_column, is_mask, put_table}
 use Rattle.lb_names.specs.Mentions.{in_expr, tables_in, policies_in}
 use Rattle.lb_alter.specs.ChangeControl.{correlation_of, has_permission, source_refusal, is_replaced, takes_mask_name, mask_name, other_mask, type_at, new_mask, with_mask, create_mask, is_bad_source}
-use Rattle.lb_alter.specs.ChangeTable.{exists_already}
 use Rattle.lb_alter.specs.Columns.{IsPlace, has_mask_twice}
 use Rattle.lb_alter.specs.Named.{HasTable, HasPolicy, IsGoodSource}
-use Rattle.lb_alter.specs.Refusing.{when, secadm}
+use Rattle.lb_alter.specs.Refusing.{exists_already, when, secadm}
 use Rattle.lb_alter.specs.Sound.{IsSound}
 use Rattle.lb_alter.specs.Steady.{IsWider, IsSteady}
 use Rattle.lb_alter.specs.Stored.{Checks}

@@ -31,14 +31,16 @@ use Rattle.lb_alter.proofs.SoundAlters.{acts_case, by_own_name}
 use Rattle.lb_alter.proofs.SoundKinds.{is_new, none_found, not_in_use}
 use Rattle.lb_alter.proofs.SoundLabels.{by_own_policy}
 use Rattle.lb_alter.proofs.SoundTables.{refitted}
+use Rattle.lb_alter.specs.AlterTable.{add_column, add_policy, secure_column, unsecure_column}
 use Rattle.lb_alter.specs.Change.{attempt, change}
 use Rattle.lb_alter.specs.ChangeControl.{activate, create_mask, create_permission, drop_mask, drop_permission, has_mask, has_permission, new_mask, new_permission, other_mask, source_refusal, switch_mask, switch_permission, takes_mask_name, takes_permission_name, type_at, with_acts, with_mask, with_permission}
 use Rattle.lb_alter.specs.ChangeGrant.{create_role, drop_role_of, exempting, grant_exemption, grant_label, grant_privileges, grant_role, grant_secadm, grant_to, grants, has_role_of, held_refusal, mismatch, reads, revoke_exemption, revoke_from, revoke_label, revoke_privileges, revoke_role, revoke_secadm, the_role, user_or_new, with_label, with_role, with_secadm, with_user_privileges, without_label, without_role, writes}
-use Rattle.lb_alter.specs.ChangeLabel.{components_refusal, create_component, create_label, create_policy, drop_component_of, drop_label, drop_policy_of, elements_of, first_label, has_component, has_policy, holds, kind_of_definition, new_policy, parts_refusal, policy_name, secures_with, table_name, user_name, with_elements}
-use Rattle.lb_alter.specs.ChangeTable.{add_column, add_policy, columns_in, columns_refusal, create_table, drop_table_of, exists_already, flaws_refusal, in_use, is_label_type, key_refusal, keys_in, policy_of, policy_refusal, secure_column, secured_refusal, unsecure_column, user_key, width_refusal}
+use Rattle.lb_alter.specs.ChangeLabel.{create_label, drop_label, holds, parts_refusal, secures_with, user_name}
+use Rattle.lb_alter.specs.ChangePolicy.{components_refusal, create_component, create_policy, drop_component_of, drop_policy_of, elements_of, first_label, has_component, has_policy, kind_of_definition, new_policy, policy_name, table_name, with_elements}
+use Rattle.lb_alter.specs.ChangeTable.{columns_in, columns_refusal, create_table, drop_table_of, flaws_refusal, is_label_type, key_refusal, keys_in, policy_of, policy_refusal, secured_refusal, user_key, width_refusal}
 use Rattle.lb_alter.specs.Laws.{TablesStayFit}
 use Rattle.lb_alter.specs.Named.{AreDifferent}
-use Rattle.lb_alter.specs.Refusing.{Changed, OrRefused, alters, each_passes, secadm, settled, when}
+use Rattle.lb_alter.specs.Refusing.{exists_already, in_use, Changed, OrRefused, alters, each_passes, secadm, settled, when}
 use Rattle.lb_alter.specs.Sound.{IsSound}
 use Rattle.lb_alter.specs.Stored.{Checks, calls_label, calls_policy, stored_name, user_of_table}
 use Rattle.lb_cat.specs.Catalog.{Cat, Table, column_named, component_named, drop_component, drop_role, has_role, is_column, label_named, policy_named, put_component, put_role, table_named}

@@ -7,7 +7,7 @@ use Rattle.lb_tree.specs.declared.query.Atom.TheVariants as atoms
 use Rattle.lb_tree.specs.declared.query.Expr.TheVariants as exprs
 use Rattle.lb_tree.specs.declared.query.Item.TheVariants as items
 use Rattle.lb_tree.specs.Folds.{item_of, chain_of}
-use Rattle.lb_alter.specs.Worked.{asks_teller, reads_teller}
+use Rattle.lb_alter.specs.WorkedAnswers.{asks_teller, reads_teller}
 use Rattle.lb_alter.specs.WorkedControls.{asks_policy}
 use Rattle.std.specs.Prelude.{filter}
 

@@ -7,11 +7,11 @@ use Rattle.lb_stmt.specs.declared.change.Change.TheVariants as changes
 use Rattle.lb_rows.specs.Tables.{Tables}
 use Rattle.lb_cat.specs.Catalog.{Cat, first_cat}
 use Rattle.lb_cat.specs.Credentials.{cred}
-use Rattle.lb_alter.specs.Stored.{Checks}
 use Rattle.lb_alter.specs.Change.{change}
 use Rattle.lb_alter.specs.Fits.{CredFits, TablesFit}
 use Rattle.lb_alter.specs.Sound.{IsSound}
 use Rattle.lb_alter.specs.Steady.{IsSteady}
+use Rattle.lb_alter.specs.Stored.{Checks}
 
 -- what a statement keeps that was read from a text: CREATE TABLE has an element, and a new policy's name is folded
 abbrev pub IsAsRead : Change → Type 0

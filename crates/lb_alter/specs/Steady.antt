@@ -11,13 +11,13 @@ use Rattle.lb_cat.specs.declared.refusal.Refusal.{Refusal}
 use Rattle.lb_cat.specs.declared.refusal.Refusal.TheVariants as refusals
 use Rattle.lb_cat.specs.Catalog.{Cat, Table, Policy, label_named, table_named, policy_named, put_table, put_policy}
 use Rattle.lb_names.specs.Mentions.{Mention, Mentions, table, policy, label, in_cond, in_expr, tables_in, policies_in}
-use Rattle.lb_alter.specs.Stored.{Checks}
-use Rattle.lb_alter.specs.Refusing.{when}
-use Rattle.lb_alter.specs.ChangeTable.{is_label_type, is_label_column}
 use Rattle.lb_alter.specs.ChangeControl.{correlation_of}
+use Rattle.lb_alter.specs.ChangeTable.{is_label_type, is_label_column}
 use Rattle.lb_alter.specs.Deps.{deps_of}
 use Rattle.lb_alter.specs.Frame.{SameOn}
 use Rattle.lb_alter.specs.Named.{HasTable, HasPolicy, HasFoldedNames}
+use Rattle.lb_alter.specs.Refusing.{when}
+use Rattle.lb_alter.specs.Stored.{Checks}
 use Rattle.lb_alter.specs.Valid.{KeepsRules, KeepsMaskRules, IsValid, IsValidMask}
 
 -- what a stored condition depends on beside its own table

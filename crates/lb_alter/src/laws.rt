@@ -6,7 +6,7 @@ ghost use Rattle.lb_alter.specs.Stored.{Checks};
 ghost use Rattle.lb_alter.specs.WorkedControls.{
     AreInUse, CalledIsInUse, MasksAreRefused, OtherKindIsUnknown, PermissionsAreRefused, SourcesStandBetween, Switches,
 };
-ghost use Rattle.lb_alter.specs.Worked.{AllAreRefused, AllLeave, DropsTouchUsers, ReadsThrough};
+ghost use Rattle.lb_alter.specs.WorkedAnswers.{AllAreRefused, AllLeave, DropsTouchUsers, ReadsThrough};
 
 /// What some statements answer in a small catalogue.
 pub fn worked_changes()

@@ -6,11 +6,11 @@ use Rattle.lb_cat.specs.Keys.{once}
 use Rattle.lb_cat.specs.Catalog.{drop_table, table_named, policy_named}
 use Rattle.lb_cat.specs.Privileges.{without_grant, has_grant_on}
 use Rattle.lb_names.specs.Mentions.{Mentions, tables_in, policies_in}
-use Rattle.lb_alter.specs.ChangeTable.{in_use, user_key}
+use Rattle.lb_alter.specs.ChangeTable.{user_key}
 use Rattle.lb_alter.specs.Deps.{policy_of_table, is_key_name, components_of}
-use Rattle.lb_alter.specs.Refusing.{settled, done, ◌>>◌}
+use Rattle.lb_alter.specs.Refusing.{in_use, settled, done, ◌>>◌}
 use Rattle.lb_alter.specs.Stored.{Checks, Stored, stored_name, names_table}
-use Rattle.lb_alter.specs.Worked.{bank, ReadsThrough}
+use Rattle.lb_alter.specs.WorkedAnswers.{bank, ReadsThrough}
 use Rattle.std.specs.Prelude.{ℕ, Option, option_map, find, filter, filter_map, map}
 use Rattle.std.specs.List.{flat_map}
 use Rattle.lb_base.specs.declared.key.Key.{Key}
