@@ -244,8 +244,8 @@ module _ (K : Checks) (C : Cat) (T : Tables) (s : IsSound K C) (f : EachFits C T
   attempt_fits (changes.RevokeRole role n) = revoke_role_fits role n
   attempt_fits (changes.GrantSecadm n) = grant_secadm_fits n
   attempt_fits (changes.RevokeSecadm n) = revoke_secadm_fits n
-  attempt_fits (changes.GrantPrivileges rights n to) = grant_privileges_fits rights n to
-  attempt_fits (changes.RevokePrivileges rights n from) = revoke_privileges_fits rights n from
+  attempt_fits (changes.GrantPrivileges privileges n to) = grant_privileges_fits privileges n to
+  attempt_fits (changes.RevokePrivileges privileges n from) = revoke_privileges_fits privileges n from
 
 settled_fits : (C : Cat) (T : Tables) → EachFits C T → (m : OrRefused Changed) → LeavesFit m → EachFits (settled C T m).cat (settled C T m).tables
 settled_fits C T f (Ok d) h = h.fits d refl

@@ -535,8 +535,8 @@ attempt_stays K C T user (changes.GrantRole role n) = grant_role_stays C T user 
 attempt_stays K C T user (changes.RevokeRole role n) = revoke_role_stays C T user role n
 attempt_stays K C T user (changes.GrantSecadm n) = grant_secadm_stays C T user n
 attempt_stays K C T user (changes.RevokeSecadm n) = revoke_secadm_stays C T user n
-attempt_stays K C T user (changes.GrantPrivileges rights n to) = grant_privileges_stays C T user rights n to
-attempt_stays K C T user (changes.RevokePrivileges rights n from) = revoke_privileges_stays C T user rights n from
+attempt_stays K C T user (changes.GrantPrivileges privileges n to) = grant_privileges_stays C T user privileges n to
+attempt_stays K C T user (changes.RevokePrivileges privileges n from) = revoke_privileges_stays C T user privileges n from
 
 settled_stays : (C : Cat) (T : Tables) (m : OrRefused Changed) → Stays C T m → (k : Key) → has_key k (settled C T m).touched ≡ false
     → SameRecord C (settled C T m).cat k × SameRows T (settled C T m).tables k

@@ -44,8 +44,8 @@ attempt K C T user (changes.GrantRole role n) = grant_role C T user role n
 attempt K C T user (changes.RevokeRole role n) = revoke_role C T user role n
 attempt K C T user (changes.GrantSecadm n) = grant_secadm C T user n
 attempt K C T user (changes.RevokeSecadm n) = revoke_secadm C T user n
-attempt K C T user (changes.GrantPrivileges rights n to) = grant_privileges C T user rights n to
-attempt K C T user (changes.RevokePrivileges rights n from) = revoke_privileges C T user rights n from
+attempt K C T user (changes.GrantPrivileges privileges n to) = grant_privileges C T user privileges n to
+attempt K C T user (changes.RevokePrivileges privileges n from) = revoke_privileges C T user privileges n from
 
 -- what the user's statement answers and leaves
 abbrev pub change : Checks → Cat → Tables → List ℕ → Change → Changed

@@ -29,7 +29,7 @@ abbrev pub ◌>>=◌ : {A B : Type 0} → OrRefused A → (A → OrRefused B) �
 Ok x >>= f = f x
 Err r >>= f = Err r
 
--- a test: it refuses, or what stands in_tables it decides
+-- a test: it refuses, or what comes after it decides
 infixl 10 ◌>>◌
 abbrev pub ◌>>◌ : {A : Type 0} → Option Refusal → OrRefused A → OrRefused A
 None >> rest = rest

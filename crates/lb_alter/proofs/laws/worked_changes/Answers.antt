@@ -45,7 +45,7 @@ drop_by : Checks → Option Stored → Reply
 drop_by K o = (settled (bank K) [] (in_use teller (option_map stored_name o)
     >> done (record (drop_table teller (bank K)) { users = map (without_grant teller) (bank K).users }) (without (is_version teller) []) (keys.Table teller ∷ keys.Rows teller ∷ map user_key (filter (has_grant_on teller) (bank K).users)))).reply
 
--- what a write depends on, by what stands in_tables its table
+-- what a write depends on, by what its table's permission names
 tables_by : Mentions → List (List ℕ)
 tables_by b = codes "CUST" ∷ tables_in b
 
