@@ -65,10 +65,10 @@ module _ (C D : Cat) (ms : Mentions) (same : SameOn (deps_of C ms) C D) where
   all_keys : SameOn (map (λ n. keys.Table n) (tables_for C ms) ++ (map (λ n. keys.Policy n) (policies_for C ms) ++ map (λ n. keys.Component n) (components_for C ms))) C D
   all_keys = all_once (SameRecord C D) _ same
 
-  tables_same : AllByRecursion (λ (n : List ℕ). table_named D n ≡ table_named C n) (tables_for C ms)
+  pub tables_same : AllByRecursion (λ (n : List ℕ). table_named D n ≡ table_named C n) (tables_for C ms)
   tables_same = all_mapped (SameRecord C D) (λ n. keys.Table n) (tables_for C ms) (all_front (SameRecord C D) (map (λ n. keys.Table n) (tables_for C ms)) _ all_keys)
 
-  policies_same : AllByRecursion (λ (n : List ℕ). policy_named D n ≡ policy_named C n) (policies_for C ms)
+  pub policies_same : AllByRecursion (λ (n : List ℕ). policy_named D n ≡ policy_named C n) (policies_for C ms)
   policies_same = all_mapped (SameRecord C D) (λ n. keys.Policy n) (policies_for C ms)
       (all_front (SameRecord C D) (map (λ n. keys.Policy n) (policies_for C ms)) _ (all_behind (SameRecord C D) (map (λ n. keys.Table n) (tables_for C ms)) _ all_keys))
 
