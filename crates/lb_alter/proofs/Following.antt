@@ -1,15 +1,14 @@
 -- What fits one catalogue on the dependencies of a statement fits each that has the same records under them.
-use Rattle.std.proofs.Common.{◌≡◌, refl, sym, ap, subst, ◌∙◌, ℕ, List, [], ◌∷◌, ◌++◌, map, Option, Some, None}
+use Rattle.std.proofs.Common.{◌≡◌, refl, subst, ℕ, List, [], ◌∷◌, ◌++◌, map, Option, Some, None}
 use Rattle.std.specs.Prelude.{find, filter_map}
 use Rattle.std.specs.List.{AllByRecursion, cons_option}
 use Rattle.lb_base.specs.declared.key.Key.{Key}
 use Rattle.lb_base.specs.declared.key.Key.TheVariants as keys
 use Rattle.lb_base.specs.declared.key.Ty.{Ty}
 use Rattle.lb_base.specs.declared.key.Ty.TheVariants as types
-use Rattle.lb_stmt.specs.declared.write.Stmt.{Stmt}
 use Rattle.lb_cat.specs.declared.catalog.ColumnRec.{ColumnRec}
 use Rattle.lb_cat.specs.declared.cred.Cred.{Cred}
-use Rattle.lb_rows.specs.Tables.{Tables, Version, is_version}
+use Rattle.lb_rows.specs.Tables.{Tables, is_version}
 use Rattle.lb_cat.specs.Catalog.{Cat, Table, Policy, table_named, policy_named, is_table}
 use Rattle.lb_names.specs.Mentions.{Mentions, in_stmt}
 use Rattle.lb_alter.specs.Stored.{Checks}
@@ -20,9 +19,8 @@ use Rattle.lb_alter.specs.Labelled.{ColumnBelongs, LabelsBelong, IsOfPolicy}
 use Rattle.lb_alter.specs.Named.{IfGiven}
 use Rattle.lb_alter.specs.Sound.{IsSound}
 use Rattle.lb_alter.specs.Laws.{FitsFollow}
-use Rattle.lb_alter.proofs.Fitting.{KeepsType, KeepsLabels, SameShape, itself_zipped, record_moves}
+use Rattle.lb_alter.proofs.Fitting.{KeepsType, SameShape, itself_zipped, record_moves}
 use Rattle.lb_alter.proofs.SoundUsers.{all_append, all_found, all_mapped_to, once_all}
-use Rattle.lb_alter.proofs.SoundParts.{all_map, all_both}
 use Rattle.lb_alter.proofs.Steady.{all_once, all_front, all_behind, all_mapped, tables_same, policies_same, deps_stay}
 
 -- what holds of each name that a list gives

@@ -33,8 +33,8 @@ use Rattle.lb_alter.specs.Steady.{StaysNamed, IsSteady}
 use Rattle.lb_alter.specs.Stored.{Checks, mentioned_in, calls_label}
 use Rattle.lb_alter.proofs.SoundGrants.{different_filter, found_then}
 use Rattle.lb_alter.proofs.SoundKinds.{none_found, not_in_use, is_new}
-use Rattle.lb_alter.proofs.SoundParts.{Stands, InPermissions, InMasks, stored_apart, TableIsSound, PolicyIsSound, Parts, apart, together, Reads, stored_moves, Sources}
-use Rattle.lb_alter.proofs.SoundTables.{Always, put_case, there_put, there_without, stands_follow, permissions_follow, masks_follow, belonging_follows, user_moves, sources_follow}
+use Rattle.lb_alter.proofs.SoundParts.{InPermissions, InMasks, stored_apart, TableIsSound, PolicyIsSound, Parts, apart, together, Reads, stored_moves, Sources}
+use Rattle.lb_alter.proofs.SoundTables.{Always, put_case, there_put, there_without, permissions_follow, masks_follow, belonging_follows, user_moves, sources_follow}
 use Rattle.lb_alter.proofs.SoundUsers.{UserIsSound, LeavesSound, test_sound, done_sound, all_put, all_filter, all_follow, all_found, all_append, different_put, and_left, and_right, not_so, both}
 use Rattle.lb_alter.proofs.Untouched.{or_left, or_right, turned, named_there}
 

@@ -23,8 +23,8 @@ use Rattle.lb_alter.proofs.SoundAlters.{by_own_name}
 use Rattle.lb_alter.proofs.SoundGrants.{found_then}
 use Rattle.lb_alter.proofs.SoundKinds.{is_new, none_found}
 use Rattle.lb_alter.proofs.SoundLabels.{any_none}
-use Rattle.lb_alter.proofs.SoundParts.{Stands, named_from, together, table_names, IsSource, Sources, all_both}
-use Rattle.lb_alter.proofs.SoundTables.{there_put, stands_follow, Names, names_behind, refitted, refitted_wider, some_column, refitted_sound, put_wider, sources_follow, stays_plain}
+use Rattle.lb_alter.proofs.SoundParts.{named_from, together, table_names, IsSource, Sources, all_both}
+use Rattle.lb_alter.proofs.SoundTables.{there_put, Names, names_behind, refitted, refitted_wider, some_column, refitted_sound, put_wider, sources_follow, stays_plain}
 use Rattle.lb_alter.proofs.SoundUsers.{LeavesSound, test_sound, done_sound, all_put, all_follow, all_append, among_put, different_put}
 use Rattle.lb_alter.proofs.Untouched.{or_left, or_right, turned, named_there}
 

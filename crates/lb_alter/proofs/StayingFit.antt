@@ -1,10 +1,9 @@
 -- Each change keeps that the rows fit, statement by statement.
-use Rattle.std.proofs.Common.{◌≡◌, refl, ℕ, true, false, not, cond, ◌||◌, ◌*◌, ◌+◌, List, [], ◌∷◌, ◌++◌, map, length, Option, Some, None, Ok, Err, is_some, is_none}
-use Rattle.std.specs.Prelude.{find, filter, filter_map, position, option_map, nat_le, nat_lt, if◌then◌else◌}
+use Rattle.std.proofs.Common.{◌≡◌, refl, ℕ, true, false, not, ◌||◌, ◌*◌, ◌+◌, List, [], ◌∷◌, map, length, Option, Some, None, Ok, Err, is_some, is_none}
+use Rattle.std.specs.Prelude.{find, filter, position, option_map, nat_le, nat_lt}
 use Rattle.std.specs.List.{list_any}
-use Rattle.std.specs.Str.{bytes_eq}
 use Rattle.lb_base.specs.declared.key.Key.TheVariants as keys
-use Rattle.lb_label.specs.Component.{Definition, empty_component}
+use Rattle.lb_label.specs.Component.{empty_component}
 use Rattle.lb_stmt.specs.declared.change.Access.{Access}
 use Rattle.lb_stmt.specs.declared.change.Activation.{Activation}
 use Rattle.lb_stmt.specs.declared.change.Change.{Change}
@@ -34,7 +33,7 @@ use Rattle.lb_alter.proofs.SoundTables.{refitted}
 use Rattle.lb_alter.specs.AlterTable.{add_column, add_policy, secure_column, unsecure_column}
 use Rattle.lb_alter.specs.Change.{attempt, change}
 use Rattle.lb_alter.specs.ChangeControl.{activate, create_mask, create_permission, drop_mask, drop_permission, has_mask, has_permission, new_mask, new_permission, other_mask, source_refusal, switch_mask, switch_permission, takes_mask_name, takes_permission_name, type_at, with_acts, with_mask, with_permission}
-use Rattle.lb_alter.specs.ChangeGrant.{create_role, drop_role_of, exempting, grant_exemption, grant_label, grant_privileges, grant_role, grant_secadm, grant_to, grants, has_role_of, held_refusal, mismatch, reads, revoke_exemption, revoke_from, revoke_label, revoke_privileges, revoke_role, revoke_secadm, the_role, user_or_new, with_label, with_role, with_secadm, with_user_privileges, without_label, without_role, writes}
+use Rattle.lb_alter.specs.ChangeGrant.{create_role, drop_role_of, exempting, grant_exemption, grant_label, grant_privileges, grant_role, grant_secadm, grant_to, has_role_of, held_refusal, mismatch, reads, revoke_exemption, revoke_from, revoke_label, revoke_privileges, revoke_role, revoke_secadm, the_role, user_or_new, with_label, with_role, with_secadm, with_user_privileges, without_label, without_role, writes}
 use Rattle.lb_alter.specs.ChangeLabel.{create_label, drop_label, holds, parts_refusal, secures_with, user_name}
 use Rattle.lb_alter.specs.ChangePolicy.{components_refusal, create_component, create_policy, drop_component_of, drop_policy_of, elements_of, first_label, has_component, has_policy, kind_of_definition, new_policy, policy_name, table_name, with_elements}
 use Rattle.lb_alter.specs.ChangeTable.{columns_in, columns_refusal, create_table, drop_table_of, flaws_refusal, is_label_type, key_refusal, keys_in, policy_of, policy_refusal, secured_refusal, user_key, width_refusal}

@@ -27,11 +27,10 @@ use Rattle.lb_stmt.specs.declared.write.Stmt.{Stmt}
 use Rattle.lb_stmt.specs.declared.write.Stmt.TheVariants as stmts
 use Rattle.lb_cat.specs.declared.catalog.Holding.{Holding}
 use Rattle.lb_alter.specs.Change.{change}
-use Rattle.lb_alter.specs.ChangeGrant.{mismatch}
 use Rattle.lb_alter.specs.Deps.{write_deps}
-use Rattle.lb_alter.specs.Refusing.{Changed, owner, secadm}
+use Rattle.lb_alter.specs.Refusing.{Changed}
 use Rattle.lb_alter.specs.Stored.{Checks}
-use Rattle.lb_alter.specs.Worked.{admin, after_all, label_of, Answers, table, policy, label, plain, int, text, granted, catalog, refused}
+use Rattle.lb_alter.specs.Worked.{admin, after_all, label_of, Answers, table, label, plain, int, text, granted, catalog, refused}
 
 -- labels that disagree in LEVEL, a label that is held, and a user without SECADM
 pub record GrantsAreRefused (K : Checks) : Type 0 where

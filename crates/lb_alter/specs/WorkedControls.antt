@@ -19,10 +19,9 @@ use Rattle.lb_cat.specs.declared.reply.Reply.{Reply}
 use Rattle.lb_cat.specs.Catalog.{Cat, Table, table_named, first_cat, put_table}
 use Rattle.lb_alter.specs.Change.{change}
 use Rattle.lb_alter.specs.ChangeTable.{new_table}
-use Rattle.lb_alter.specs.Refusing.{secadm}
 use Rattle.lb_alter.specs.Stored.{Checks}
 use Rattle.lb_alter.specs.Worked.{Answers, admin, after_all, catalog, int, label, plain, refused, table}
-use Rattle.lb_alter.specs.WorkedAnswers.{asks_teller, pay, dropped}
+use Rattle.lb_alter.specs.WorkedAnswers.{asks_teller, pay}
 
 -- rules that refuse every condition for a name, for a type, or not at all
 abbrev pub rules_by : Option Refusal → Option Refusal → Checks

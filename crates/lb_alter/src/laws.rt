@@ -1,12 +1,23 @@
 // Laws over the definitions. Each is the contract of a function that does nothing.
 ghost use Rattle.lb_alter.specs.Frame.{DepsStay, UntouchedStays};
 ghost use Rattle.lb_alter.specs.Laws.{
-    CredentialsFit, FirstIsSound, FirstTablesFit, FitsFollow, StaysSound, TablesStayFit,
+  CredentialsFit,
+  FirstIsSound,
+  FirstTablesFit,
+  FitsFollow,
+  StaysSound,
+  TablesStayFit,
 };
 ghost use Rattle.lb_alter.specs.Steady.{IsSteady, plain_rules};
 ghost use Rattle.lb_alter.specs.Stored.{Checks};
 ghost use Rattle.lb_alter.specs.WorkedControls.{
-    AreInUse, CalledIsInUse, MasksAreRefused, OtherKindIsUnknown, PermissionsAreRefused, SourcesStandBetween, Switches,
+  AreInUse,
+  CalledIsInUse,
+  MasksAreRefused,
+  OtherKindIsUnknown,
+  PermissionsAreRefused,
+  SourcesStandBetween,
+  Switches,
 };
 ghost use Rattle.lb_alter.specs.WorkedAnswers.{AllAreRefused, AllLeave, DropsTouchUsers, ReadsThrough};
 

@@ -1,9 +1,8 @@
-use Rattle.std.proofs.Common.{◌≡◌, refl, ap, ◌++◌, cond, false, ℕ, List, [], ◌∷◌, Option, Some, None, codes}
-use Rattle.std.specs.Prelude.{find, filter, map, option_map}
+use Rattle.std.proofs.Common.{refl, ap, ◌++◌, cond, false, ℕ, List, [], ◌∷◌, Some, None, codes}
+use Rattle.std.specs.Prelude.{filter, map, option_map}
 use Rattle.std.specs.List.{list_any}
 use Rattle.lb_base.specs.declared.key.Key.TheVariants as keys
 use Rattle.lb_cat.specs.declared.reply.Reply.{Reply}
-use Rattle.lb_cat.specs.declared.refusal.Refusal.{Refusal}
 use Rattle.lb_cat.specs.declared.refusal.Refusal.TheVariants as refusals
 use Rattle.lb_stmt.specs.declared.change.PermissionDef.{PermissionDef}
 use Rattle.lb_stmt.specs.declared.change.Switch.TheVariants as switches
