@@ -1,33 +1,30 @@
 -- Credentials and rows that fit a catalogue, and what carries rows from one catalogue to another.
-use Rattle.std.proofs.Common.{◌≡◌, refl, sym, ap, subst, ◌∙◌, ℕ, zero, suc, ◌*◌, ◌≤◌, Bool, true, false, cond, ◌&&◌, ◌||◌, List, [], ◌∷◌, ◌++◌, map, length, Option, Some, None, is_some, arith}
-use Rattle.std.specs.Prelude.{find, option_map, slice_index_or, unwrap_or}
+use Rattle.std.proofs.Common.{◌≡◌, refl, sym, ap, subst, ◌∙◌, ℕ, suc, ◌*◌, ◌≤◌, Bool, true, ◌&&◌, ◌||◌, List, [], ◌∷◌, map, length, Option, Some, None}
+use Rattle.std.specs.Prelude.{find, option_map, unwrap_or}
 use Rattle.std.specs.List.{AllByRecursion, AllZip}
 use Rattle.std.specs.Str.{bytes_eq}
 use Rattle.std.proofs.lemmas.Slice.Eq.{bytes_eq-Decides}
-use Rattle.lb_base.specs.declared.key.Key.{Key}
 use Rattle.lb_base.specs.declared.key.Key.TheVariants as keys
 use Rattle.lb_base.specs.declared.key.Ty.{Ty}
 use Rattle.lb_base.specs.declared.key.Ty.TheVariants as types
 use Rattle.lb_base.specs.declared.value.Value.{Value}
 use Rattle.lb_base.specs.declared.value.Value.TheVariants as values
-use Rattle.lb_label.specs.Component.{Definition}
 use Rattle.lb_label.specs.Label.{IsLabel}
 use Rattle.lb_cat.specs.declared.catalog.ColumnRec.{ColumnRec}
 use Rattle.lb_cat.specs.declared.catalog.Holding.{Holding}
 use Rattle.lb_cat.specs.declared.catalog.LabelRec.{LabelRec}
-use Rattle.lb_cat.specs.declared.cred.CredLabel.{CredLabel}
 use Rattle.lb_rows.specs.KeyValues.{is_null, keys_differ}
 use Rattle.lb_rows.specs.Tables.{Tables, Version, is_version}
-use Rattle.lb_cat.specs.Catalog.{Cat, Table, Policy, User, table_named, policy_named, label_named, user_named, is_label, is_policy, first_cat, no_user}
+use Rattle.lb_cat.specs.Catalog.{Cat, Table, Policy, table_named, policy_named, label_named, user_named, is_label, is_policy, first_cat, no_user}
 use Rattle.lb_cat.specs.Credentials.{label_in, parts_in, cred_label, cred}
-use Rattle.lb_alter.specs.Stored.{Checks}
-use Rattle.lb_alter.specs.ChangeTable.{is_label_column, is_label_type}
-use Rattle.lb_alter.specs.Fits.{IsLabelIfHeld, FitsPolicy, FitsIfThere, CredFitsKey, CredFits, IsLabelOf, HasType, FitsColumn, FitsTable, RowsFit, FitsRecord, TablesFitKey, TablesFit}
-use Rattle.lb_alter.specs.Sound.{IsSound}
+use Rattle.lb_alter.specs.ChangeTable.{is_label_type}
+use Rattle.lb_alter.specs.Fits.{IsLabelIfHeld, FitsPolicy, FitsIfThere, IsLabelOf, HasType, FitsColumn, FitsTable, RowsFit, FitsRecord, TablesFit}
 use Rattle.lb_alter.specs.Laws.{CredentialsFit, FirstTablesFit, AllTablesFit}
+use Rattle.lb_alter.specs.Sound.{IsSound}
+use Rattle.lb_alter.specs.Stored.{Checks}
+use Rattle.lb_alter.proofs.SoundParts.{PolicyIsSound, apart}
 use Rattle.lb_alter.proofs.SoundUsers.{all_found, all_follow}
-use Rattle.lb_alter.proofs.SoundParts.{PolicyIsSound, Parts, apart}
-use Rattle.lb_alter.proofs.Untouched.{named_there, put_other}
+use Rattle.lb_alter.proofs.Untouched.{named_there}
 
 -- ---- credentials
 

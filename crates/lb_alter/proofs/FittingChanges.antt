@@ -1,7 +1,7 @@
 -- What a change leaves of rows that fit: where tables, columns and labels stay, and where a table is made, dropped or widened.
-use Rattle.std.proofs.Common.{◌≡◌, refl, sym, ap, subst, ◌∙◌, ℕ, zero, suc, ◌+◌, ◌*◌, ◌≤◌, Bool, true, false, cond, not, ◌&&◌, ◌||◌, List, [], ◌∷◌, ◌++◌, map, length, Option, Some, None, Ok, Err, is_some, arith}
-use Rattle.std.specs.Prelude.{find, filter, option_map, slice_index_or, nat_le, nat_lt}
-use Rattle.std.specs.List.{AllByRecursion, AllZip, list_any}
+use Rattle.std.proofs.Common.{◌≡◌, refl, sym, ap, subst, ◌∙◌, ℕ, zero, suc, ◌+◌, ◌*◌, ◌≤◌, Bool, true, false, not, ◌&&◌, ◌||◌, List, [], ◌∷◌, ◌++◌, map, length, Option, Some, None, Ok, Err, is_some, arith}
+use Rattle.std.specs.Prelude.{find, nat_lt}
+use Rattle.std.specs.List.{AllByRecursion, AllZip}
 use Rattle.std.specs.Str.{bytes_eq}
 use Rattle.std.proofs.lemmas.Slice.Eq.{bytes_eq-Decides}
 use Rattle.lb_base.specs.declared.key.Key.{Key}
@@ -10,49 +10,35 @@ use Rattle.lb_base.specs.declared.key.Ty.{Ty}
 use Rattle.lb_base.specs.declared.key.Ty.TheVariants as types
 use Rattle.lb_base.specs.declared.value.Value.{Value}
 use Rattle.lb_base.specs.declared.value.Value.TheVariants as values
-use Rattle.lb_label.specs.Component.{Definition, empty_component}
-use Rattle.lb_stmt.specs.declared.change.Change.{Change}
-use Rattle.lb_stmt.specs.declared.change.Change.TheVariants as changes
-use Rattle.lb_stmt.specs.declared.change.ComponentDef.{ComponentDef}
 use Rattle.lb_stmt.specs.declared.change.Element.{Element}
-use Rattle.lb_stmt.specs.declared.change.Grantee.{Grantee}
-use Rattle.lb_stmt.specs.declared.change.Grantee.TheVariants as grantees
 use Rattle.lb_stmt.specs.declared.change.PlainType.{PlainType}
-use Rattle.lb_stmt.specs.declared.change.PlainType.TheVariants as plains
-use Rattle.lb_stmt.specs.declared.change.PolicyDef.{PolicyDef}
-use Rattle.lb_stmt.specs.declared.change.Privilege.{Privilege}
 use Rattle.lb_cat.specs.declared.catalog.ColumnRec.{ColumnRec}
 use Rattle.lb_cat.specs.declared.catalog.LabelRec.{LabelRec}
 use Rattle.lb_cat.specs.declared.refusal.Refusal.{Refusal}
 use Rattle.lb_cat.specs.declared.refusal.Refusal.TheVariants as refusals
-use Rattle.lb_cat.specs.declared.refusal.LimitOf.TheVariants as limits
 use Rattle.lb_cat.specs.declared.refusal.NeededPrivilege.TheVariants as needed
 use Rattle.lb_rows.specs.KeyValues.{are_keys, keys_differ, value_at}
 use Rattle.lb_rows.specs.Lists.{put, without}
 use Rattle.lb_rows.specs.Tables.{Tables, Version, is_version, put_version, rows_in, rows_of}
-use Rattle.lb_cat.specs.Catalog.{Cat, Table, Policy, Component, User, table_named, policy_named, component_named, is_table, is_column, is_policy, put_table, put_policy, drop_table, drop_policy}
-use Rattle.lb_cat.specs.Privileges.{with_privileges, has_grant_on, without_grant}
-use Rattle.lb_cat.specs.Holdings.{has_holding_of, without_holding, is_same_name}
-use Rattle.lb_alter.specs.Stored.{Checks, stored_name, user_of_table, calls_policy}
-use Rattle.lb_alter.specs.Refusing.{Changed, OrRefused, ◌>>=◌, ◌>>◌, when, found, owner, secadm, done, alters, alters_policy, settled}
-use Rattle.lb_alter.specs.ChangeTable.{with_null, plain_type, plain_column, is_label_column, is_label_type, new_table, create_table, in_use, user_key, drop_table_of, secure, change_column, columns_in, is_key}
-use Rattle.lb_alter.specs.ChangeControl.{has_permission, has_mask, with_acts}
-use Rattle.lb_alter.specs.ChangeLabel.{kind_of_definition, elements_of, with_elements, has_policy, table_name, new_policy}
-use Rattle.lb_alter.specs.ChangeGrant.{grants, revokes, taken_from, user_or_new, grant_to, revoke_from, with_user_privileges}
-use Rattle.lb_alter.specs.Change.{attempt}
+use Rattle.lb_cat.specs.Catalog.{Cat, Table, Policy, User, table_named, policy_named, is_table, put_table, put_policy, drop_table, drop_policy}
+use Rattle.lb_cat.specs.Privileges.{without_grant}
+use Rattle.lb_cat.specs.Holdings.{without_holding, is_same_name}
+use Rattle.lb_alter.specs.AlterTable.{with_null, plain_column, secure, change_column}
+use Rattle.lb_alter.specs.ChangeGrant.{grants, revokes, taken_from, user_or_new}
+use Rattle.lb_alter.specs.ChangePolicy.{has_policy}
+use Rattle.lb_alter.specs.ChangeTable.{new_table}
 use Rattle.lb_alter.specs.Fits.{IsLabelOf, FitsColumn, FitsTable, RowsFit, FitsRecord}
 use Rattle.lb_alter.specs.Labelled.{ColumnBelongs, LabelsBelong, IsOfPolicy}
 use Rattle.lb_alter.specs.Named.{AreDifferent}
-use Rattle.lb_alter.specs.Sound.{IsSound}
-use Rattle.lb_alter.specs.Laws.{TablesStayFit, AllTablesFit}
-use Rattle.lb_alter.proofs.SoundUsers.{all_found, all_follow}
-use Rattle.lb_alter.proofs.SoundTables.{put_case, found_put, found_without, same_put, refitted}
-use Rattle.lb_alter.proofs.SoundAlters.{by_own_name, found_by_name, acts_case}
+use Rattle.lb_alter.specs.Refusing.{Changed, OrRefused, ◌>>=◌, ◌>>◌, when, found, owner, done, alters, alters_policy}
+use Rattle.lb_alter.specs.Stored.{calls_policy}
+use Rattle.lb_alter.proofs.Fitting.{EachFits, KeepsLabels, KeepsType, SameColumn, SameShape, Moves, record_moves, value_moves, all_move, keeps_all, keeps_each, itself_zipped, same_move}
+use Rattle.lb_alter.proofs.SoundAlters.{found_by_name}
 use Rattle.lb_alter.proofs.SoundColumns.{same_type, same_null, length_more, plain_is}
-use Rattle.lb_alter.proofs.SoundKinds.{none_found, not_in_use, is_new, not_more}
-use Rattle.lb_alter.proofs.SoundLabels.{by_own_policy}
-use Rattle.lb_alter.proofs.Fitting.{EachFits, each_from, each_to, KeepsLabels, KeepsType, SameColumn, SameShape, Moves, record_moves, value_moves, row_moves, rows_move, all_move, keeps_all, keeps_each, itself_zipped, same_move}
-use Rattle.lb_alter.proofs.Untouched.{or_left, or_right, turned, named_there, put_other, without_other}
+use Rattle.lb_alter.proofs.SoundKinds.{not_more}
+use Rattle.lb_alter.proofs.SoundTables.{put_case, found_put, found_without, same_put}
+use Rattle.lb_alter.proofs.SoundUsers.{all_found}
+use Rattle.lb_alter.proofs.Untouched.{or_left, turned, put_other, without_other}
 
 -- ---- blocks
 
@@ -233,13 +219,13 @@ module _ (C : Cat) (T : Tables) (fits : EachFits C T) where
 
     pub without_policy_fits : AllByRecursion (LabelsBelong C) C.tables → AllByRecursion (λ (t : Table). (has_policy n t || calls_policy n t) ≡ false) C.tables → EachFits WithoutPolicy T
     without_policy_fits belong free = all_move C WithoutPolicy T (λ m.
-      elim (table_named C m) as (λ o. table_named C m ≡ o → Moves C WithoutPolicy o o) [
-        | None ↦ λ _. tt
-        | Some t ↦ λ e.
-            let own : (has_policy n t || calls_policy n t) ≡ false = all_found (λ (x : Table). (has_policy n x || calls_policy n x) ≡ false) (is_table m) C.tables t free e in
-            let b : LabelsBelong C t = all_found (LabelsBelong C) (is_table m) C.tables t belong e in
-            record { columns = itself_zipped C WithoutPolicy t.columns (all_of_policy t t.columns (or_left _ _ own) b); key = refl }
-      ] refl) fits
+        elim (table_named C m) as (λ o. table_named C m ≡ o → Moves C WithoutPolicy o o) [
+          | None ↦ λ _. tt
+          | Some t ↦ λ e.
+              let own : (has_policy n t || calls_policy n t) ≡ false = all_found (λ (x : Table). (has_policy n x || calls_policy n x) ≡ false) (is_table m) C.tables t free e in
+              let b : LabelsBelong C t = all_found (LabelsBelong C) (is_table m) C.tables t belong e in
+              record { columns = itself_zipped C WithoutPolicy t.columns (all_of_policy t t.columns (or_left _ _ own) b); key = refl }
+        ] refl) fits
 
   -- ---- tables made, dropped and widened
 

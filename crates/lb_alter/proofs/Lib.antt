@@ -1,6 +1,7 @@
 pub mod WorkedMentions
 pub mod Fitting
 pub mod FittingChanges
+pub mod Following
 pub mod MadeComponents
 pub mod Rules
 pub mod SoundAlters

@@ -1,5 +1,5 @@
 -- The component that CREATE SECURITY LABEL COMPONENT makes is a component.
-use Rattle.std.proofs.Common.{◌≡◌, refl, ap, sym, ◌∙◌, ℕ, zero, suc, ◌+◌, ◌-◌, ◌<◌, ◌≤◌, ◌≢◌, ◌⊎◌, ⊎_elim, inl, inr, Bool, true, false, not, cond, List, [], ◌∷◌, ◌++◌, length, map, get_or, Option, Some, None, Ok, Err, is_some, is_none, eqb, arith, subst}
+use Rattle.std.proofs.Common.{◌≡◌, refl, ap, sym, ◌∙◌, ℕ, zero, suc, ◌+◌, ◌-◌, ◌<◌, ◌≤◌, ◌≢◌, ◌⊎◌, ⊎_elim, inl, inr, Bool, true, false, not, cond, List, [], ◌∷◌, ◌++◌, length, map, get_or, Option, Some, None, Ok, Err, is_some, is_none, eqb, arith}
 use Rattle.std.specs.Prelude.{nat_le}
 use Rattle.std.proofs.lemmas.Bool.{cases_lt, leb-false}
 use Rattle.std.proofs.lemmas.List.{get_or_append_left, get_or_at, length-append}
@@ -10,13 +10,12 @@ use Rattle.std.specs.Option.{option_and_then}
 use Rattle.std.specs.Str.{bytes_eq}
 use Rattle.lb_label.specs.declared.kind.ComponentKind.{ComponentKind}
 use Rattle.lb_label.specs.declared.kind.ComponentKind.TheVariants.{Set, Array, Tree}
-use Rattle.lb_label.specs.declared.component.ElementFault.{ElementFault}
 use Rattle.lb_label.specs.declared.component.ElementFault.TheVariants as faults
 use Rattle.lb_label.specs.Component.{Definition, IsComponent, IsParent, empty_component, is_element_text, lacks_parent, limit, number_of, rank, refusal, with_element}
 use Rattle.lb_stmt.specs.declared.change.ComponentDef.{ComponentDef}
 use Rattle.lb_stmt.specs.declared.change.ComponentDef.TheVariants as definitions
 use Rattle.lb_stmt.specs.declared.change.TreeElement.{TreeElement}
-use Rattle.lb_alter.specs.ChangeLabel.{kind_of_definition, elements_of, element_refusal, with_elements}
+use Rattle.lb_alter.specs.ChangePolicy.{kind_of_definition, elements_of, element_refusal, with_elements}
 use Rattle.lb_alter.specs.Refusing.{OrRefused, ◌>>◌}
 
 -- ---- places in lists

@@ -1,4 +1,4 @@
--- Activation, rights of all users, switched and dropped permissions and masks leave a sound catalogue sound.
+-- Activation, privileges of all users, switched and dropped permissions and masks leave a sound catalogue sound.
 use Rattle.std.proofs.Common.{◌≡◌, refl, sym, ap, subst, ◌∙◌, ℕ, Bool, true, false, cond, not, ◌||◌, List, [], ◌∷◌, ◌++◌, map, Option, Some, None}
 use Rattle.std.specs.Prelude.{find, filter, ◌==◌}
 use Rattle.std.specs.List.{AllByRecursion, list_any}
@@ -24,7 +24,7 @@ use Rattle.lb_alter.specs.Sound.{IsSound}
 use Rattle.lb_alter.specs.Steady.{IsSteady}
 use Rattle.lb_alter.specs.Stored.{Checks}
 use Rattle.lb_alter.specs.Valid.{IsValid, IsValidMask}
-use Rattle.lb_alter.proofs.SoundGrants.{among_filter, different_filter, found_then, owner_then, table_there, with_user_rights_sound}
+use Rattle.lb_alter.proofs.SoundGrants.{among_filter, different_filter, found_then, owner_then, table_there, with_user_privileges_sound}
 use Rattle.lb_alter.proofs.SoundParts.{table_names, all_map}
 use Rattle.lb_alter.proofs.SoundTables.{Always, all_always, itself, same_names, names_front, names_behind, refitted, refits_old, refits_sound, retyped}
 use Rattle.lb_alter.proofs.SoundUsers.{LeavesSound, test_sound, grants_sound, revokes_sound, all_filter, and_left, and_right, not_so}
@@ -126,11 +126,11 @@ module _ (K : Checks) (steady : IsSteady K) (C : Cat) (T : Tables) (s : IsSound 
       refits_sound K steady C T s t e t.row_control t.column_control (with_privileges given rs t.public) t.permissions t.masks (same_names Always (table_names t) (table_names t) refl) (λ h. refits_old K _ t h)
 
   grant_to_sound : (t : Table) (rs : List Privilege) (to : Grantee) → table_named C t.name ≡ Some t → HasTable C t.name → LeavesSound K (grant_to C T t rs to)
-  grant_to_sound t rs (grantees.User n) e h = grants_sound K steady C T s n (with_user_privileges true rs t.name) (with_user_rights_sound K steady C T s true rs t.name h)
+  grant_to_sound t rs (grantees.User n) e h = grants_sound K steady C T s n (with_user_privileges true rs t.name) (with_user_privileges_sound K steady C T s true rs t.name h)
   grant_to_sound t rs grantees.Public e h = public_sound true rs t e
 
   revoke_from_sound : (t : Table) (rs : List Privilege) (from : Grantee) → table_named C t.name ≡ Some t → HasTable C t.name → LeavesSound K (revoke_from C T t rs from)
-  revoke_from_sound t rs (grantees.User n) e h = revokes_sound K steady C T s n (with_user_privileges false rs t.name) (with_user_rights_sound K steady C T s false rs t.name h)
+  revoke_from_sound t rs (grantees.User n) e h = revokes_sound K steady C T s n (with_user_privileges false rs t.name) (with_user_privileges_sound K steady C T s false rs t.name h)
   revoke_from_sound t rs grantees.Public e h = public_sound false rs t e
 
   pub grant_privileges_sound : (user : List ℕ) (rs : List Privilege) (n : List ℕ) (to : Grantee) → LeavesSound K (grant_privileges C T user rs n to)
@@ -154,8 +154,8 @@ module _ (K : Checks) (steady : IsSteady K) (C : Cat) (T : Tables) (s : IsSound 
         masks = h.masks;
         places = h.columns.masked;
         once = h.label_columns.masks;
-        right = all_changed (is_permission n) f (IsValid K _ t) (λ p i. record { names = i.names; types = i.types; qualified = i.qualified }) t.permissions h.stored.permissions;
-        right_masks = h.stored.masks;
+        valid = all_changed (is_permission n) f (IsValid K _ t) (λ p i. record { names = i.names; types = i.types; qualified = i.qualified }) t.permissions h.stored.permissions;
+        valid_masks = h.stored.masks;
       })))
 
   pub drop_permission_sound : (user n : List ℕ) → LeavesSound K (drop_permission C T user n)
@@ -170,8 +170,8 @@ module _ (K : Checks) (steady : IsSteady K) (C : Cat) (T : Tables) (s : IsSound 
         masks = h.masks;
         places = h.columns.masked;
         once = h.label_columns.masks;
-        right = all_filter (IsValid K _ t) kept t.permissions h.stored.permissions;
-        right_masks = h.stored.masks;
+        valid = all_filter (IsValid K _ t) kept t.permissions h.stored.permissions;
+        valid_masks = h.stored.masks;
       })))
 
   pub switch_mask_sound : (user n : List ℕ) (w : Switch) → LeavesSound K (switch_mask C T user n w)
@@ -185,8 +185,8 @@ module _ (K : Checks) (steady : IsSteady K) (C : Cat) (T : Tables) (s : IsSound 
         masks = all_changed (is_mask n) f _ (λ m i. i) t.masks h.masks;
         places = all_changed (is_mask n) f (λ (m : MaskRec). IsPlace t m.column) (λ m i. i) t.masks h.columns.masked;
         once = twice_changed (is_mask n) f (λ m. refl) t.masks ∙ h.label_columns.masks;
-        right = h.stored.permissions;
-        right_masks = all_changed (is_mask n) f (IsValidMask K _ t) (λ m i. record { names = i.names; types = retyped K _ t t m (f m) refl refl _ i.types; qualified = i.qualified }) t.masks h.stored.masks;
+        valid = h.stored.permissions;
+        valid_masks = all_changed (is_mask n) f (IsValidMask K _ t) (λ m i. record { names = i.names; types = retyped K _ t t m (f m) refl refl _ i.types; qualified = i.qualified }) t.masks h.stored.masks;
       })))
 
   pub drop_mask_sound : (user n : List ℕ) → LeavesSound K (drop_mask C T user n)
@@ -201,6 +201,6 @@ module _ (K : Checks) (steady : IsSteady K) (C : Cat) (T : Tables) (s : IsSound 
         masks = all_filter _ kept t.masks h.masks;
         places = all_filter (λ (m : MaskRec). IsPlace t m.column) kept t.masks h.columns.masked;
         once = fewer_twice kept t.masks h.label_columns.masks;
-        right = h.stored.permissions;
-        right_masks = all_filter (IsValidMask K _ t) kept t.masks h.stored.masks;
+        valid = h.stored.permissions;
+        valid_masks = all_filter (IsValidMask K _ t) kept t.masks h.stored.masks;
       })))

@@ -18,11 +18,12 @@ use Rattle.lb_cat.specs.declared.refusal.Flaw.TheVariants as flaws
 use Rattle.lb_cat.specs.declared.refusal.LimitOf.TheVariants as limits
 use Rattle.lb_rows.specs.Tables.{Tables, put_version, rows_of}
 use Rattle.lb_cat.specs.Catalog.{Cat, Table, table_named, policy_named, is_column, column_named, is_among, put_table}
-use Rattle.lb_alter.specs.ChangeTable.{is_label_type, plain_type, plain_column, width_refusal, with_null, add_column, exists_already, add_policy, has_label, policy_of, secured_refusal, secure, change_column, secure_column, unsecure_column, is_label_column}
+use Rattle.lb_alter.specs.AlterTable.{plain_column, with_null, add_column, add_policy, secure, change_column, secure_column, unsecure_column}
+use Rattle.lb_alter.specs.ChangeTable.{is_label_type, plain_type, width_refusal, has_label, policy_of, secured_refusal, is_label_column}
 use Rattle.lb_alter.specs.Columns.{IsPlace, HasKeyColumn, IsUnsecuredLabel, is_label_at, IsNoLabelAt, HasFewColumns, IsWithinWidth, not_null_in}
 use Rattle.lb_alter.specs.Labelled.{IsLabelHere, IsOfPolicy, ColumnBelongs}
 use Rattle.lb_alter.specs.Named.{AreDifferent, are_different, IfGiven, HasPolicy}
-use Rattle.lb_alter.specs.Refusing.{when, alters}
+use Rattle.lb_alter.specs.Refusing.{exists_already, when, alters}
 use Rattle.lb_alter.specs.Sound.{IsSound}
 use Rattle.lb_alter.specs.Steady.{IsSameColumn, IsWider, IsSteady}
 use Rattle.lb_alter.specs.Stored.{Checks}
@@ -31,7 +32,7 @@ use Rattle.lb_alter.proofs.SoundAlters.{by_own_name, kept_map, kept_by}
 use Rattle.lb_alter.proofs.SoundGrants.{found_then, owner_then, is_there}
 use Rattle.lb_alter.proofs.SoundKinds.{not_full}
 use Rattle.lb_alter.proofs.SoundParts.{TableIsSound, table_names, all_map}
-use Rattle.lb_alter.proofs.SoundTables.{Always, same_names, refitted, refitted_wider, retyped, put_wider_sound}
+use Rattle.lb_alter.proofs.SoundTables.{Always, same_names, refitted, refitted_wider, some_column, retyped, put_wider_sound}
 use Rattle.lb_alter.proofs.SoundUsers.{LeavesSound, test_sound, done_sound, all_follow, all_append, and_left, and_right, not_so, both}
 use Rattle.lb_alter.proofs.Untouched.{or_left, or_right, turned}
 
@@ -133,8 +134,8 @@ module _ (n : List ℕ) (ty : PlainType) where
   not_secured : IsUnsecuredLabel added
   not_secured = ap (λ (b : Bool). b && false) (plain_is ty)
 
-  wider_more : (t : Table) → IsWider t (record t { columns = t.columns ++ added ∷ [] })
-  wider_more t = record { name = refl; more = added ∷ []; same = zipped_more t.columns; rest = rest_more t.columns; plain = ap (λ (b : Bool). b || false) (plain_is ty) }
+  wider_more : (t : Table) → 1 ≤ length t.columns → IsWider t (record t { columns = t.columns ++ added ∷ [] })
+  wider_more t some = record { name = refl; some = some; more = added ∷ []; same = zipped_more t.columns; rest = rest_more t.columns; plain = ap (λ (b : Bool). b || false) (plain_is ty) }
 
   more_sound : (K : Checks) (D : Cat) (t : Table) → nat_le 64 (length t.columns) ≡ false → IsWithinWidth (plain_type ty) → is_some (find (is_column n) t.columns) ≡ false → TableIsSound K D t → TableIsSound K D (record t { columns = t.columns ++ added ∷ [] })
   more_sound K D t room wide new h =
@@ -320,8 +321,8 @@ module _ (o : Option (List ℕ)) (n : List ℕ) where
           };
         }
 
-  changed_wider : (t : Table) → IsWider t (record t { columns = map changed t.columns })
-  changed_wider t = record { name = refl; more = drop (length t.columns) (map changed t.columns); same = zipped t.columns; rest = refl; plain = plain t.columns }
+  changed_wider : (t : Table) → 1 ≤ length t.columns → IsWider t (record t { columns = map changed t.columns })
+  changed_wider t some = record { name = refl; some = some; more = drop (length t.columns) (map changed t.columns); same = zipped t.columns; rest = refl; plain = plain t.columns }
 
 -- the columns of the name are the one that was found
 none_named : (n : List ℕ) (P : ColumnRec → Type 0) (cs : List ColumnRec) → is_among (map (λ c. c.name) cs) n ≡ false → AllByRecursion (λ (c : ColumnRec). is_column n c ≡ true → P c) cs
@@ -357,7 +358,7 @@ module _ (K : Checks) (steady : IsSteady K) (C : Cat) (T : Tables) (s : IsSound 
       let u : Table = record t { policy = Some policy } in
       done_sound K (put_table u C) T (keys.Table t.name ∷ [])
       (put_wider_sound K steady C T s t u (by_own_name C n t e) refl
-      (let w : IsWider t (refitted t t.row_control t.column_control t.public t.permissions t.masks) = refitted_wider t t.row_control t.column_control t.public t.permissions t.masks in record { name = refl; more = w.more; same = w.same; rest = w.rest; plain = w.plain })
+      (let w : IsWider t (refitted t t.row_control t.column_control t.public t.permissions t.masks) = refitted_wider t t.row_control t.column_control t.public t.permissions t.masks (some_column K C s n t e) in record { name = refl; some = w.some; more = w.more; same = w.same; rest = w.rest; plain = w.plain })
       (same_names Always (table_names t) (table_names t) refl)
       (with_policy_sound K (put_table u C) t policy (none_already t.policy none) (is_there (policy_named C policy) p i))))))
 
@@ -367,7 +368,7 @@ module _ (K : Checks) (steady : IsSteady K) (C : Cat) (T : Tables) (s : IsSound 
   changes_sound o n t there here f =
       let u : Table = record t { columns = change_column (secure o) n t.columns } in
       done_sound K (put_table u C) T (keys.Table t.name ∷ [])
-      (put_wider_sound K steady C T s t u there refl (changed_wider o n t) (same_names Always (table_names t) (table_names t) refl) (λ h. changed_sound o n K (put_table u C) t here (f h.columns.names) h))
+      (put_wider_sound K steady C T s t u there refl (changed_wider o n t (some_column K C s t.name t there)) (same_names Always (table_names t) (table_names t) refl) (λ h. changed_sound o n K (put_table u C) t here (f h.columns.names) h))
 
   pub secure_column_sound : (user n column label : List ℕ) → LeavesSound K (secure_column C T user n column label)
   secure_column_sound user n column label =
@@ -396,4 +397,4 @@ module _ (K : Checks) (steady : IsSteady K) (C : Cat) (T : Tables) (s : IsSound 
       (λ _.
       let u : Table = record t { columns = t.columns ++ plain_column column ty ∷ [] } in
       done_sound K (put_table u C) (put_version (record { name = t.name; rows = map with_null (rows_of n T) }) T) (keys.Table t.name ∷ keys.Rows t.name ∷ [])
-      (put_wider_sound K steady C T s t u (by_own_name C n t e) refl (wider_more column ty t) (same_names Always (table_names t) (table_names t) refl) (more_sound column ty K (put_table u C) t (so_false _ _ room) (width_fits ty wide) (so_false _ _ new))))))))
+      (put_wider_sound K steady C T s t u (by_own_name C n t e) refl (wider_more column ty t (some_column K C s n t e)) (same_names Always (table_names t) (table_names t) refl) (more_sound column ty K (put_table u C) t (so_false _ _ room) (width_fits ty wide) (so_false _ _ new))))))))

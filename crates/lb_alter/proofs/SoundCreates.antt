@@ -3,7 +3,6 @@ use Rattle.std.proofs.Common.{◌≡◌, refl, sym, ap, subst, ◌∙◌, ℕ, s
 use Rattle.std.specs.Prelude.{find, fold, position, nat_le, nat_lt, option_map, slice_get}
 use Rattle.std.specs.List.{AllByRecursion, flat_map, position_or_len}
 use Rattle.std.specs.Str.{bytes_eq}
-use Rattle.std.proofs.lemmas.List.Quantifiers.{position-Some}
 use Rattle.lb_base.specs.declared.key.Key.TheVariants as keys
 use Rattle.lb_stmt.specs.declared.change.ColumnDef.{ColumnDef}
 use Rattle.lb_stmt.specs.declared.change.ColumnType.{ColumnType}

@@ -13,12 +13,12 @@ use Rattle.lb_cat.specs.Holdings.{is_same_name, is_holding_of, has_holding_of, w
 use Rattle.lb_cat.specs.Privileges.{is_grant_on, has_grant_on, without_grant}
 use Rattle.lb_names.specs.Mentions.{Mentions, table, policy, label, is_table_mention, is_policy_mention}
 use Rattle.lb_alter.specs.ChangeControl.{has_labels, is_bad_source}
-use Rattle.lb_alter.specs.ChangeLabel.{has_policy, table_name, first_label, drop_policy_of}
-use Rattle.lb_alter.specs.ChangeTable.{has_label, policy_of, in_use, user_key, drop_table_of}
+use Rattle.lb_alter.specs.ChangePolicy.{has_policy, table_name, first_label, drop_policy_of}
+use Rattle.lb_alter.specs.ChangeTable.{has_label, policy_of, user_key, drop_table_of}
 use Rattle.lb_alter.specs.Deps.{in_table, policy_of_table}
 use Rattle.lb_alter.specs.Labelled.{IsPolicyLabel, HoldsLabels}
 use Rattle.lb_alter.specs.Named.{AreDifferent, IfGiven, HasTable, HasPolicy, HasComponent, HoldsSomething, GrantsSomething, HasFoldedNames}
-use Rattle.lb_alter.specs.Refusing.{secadm}
+use Rattle.lb_alter.specs.Refusing.{in_use, secadm}
 use Rattle.lb_alter.specs.Sound.{IsSound}
 use Rattle.lb_alter.specs.Steady.{IsSteady}
 use Rattle.lb_alter.specs.Stored.{Checks, Stored, stored_in, stored_name, mentions_of, mentioned_in, names_table, user_of_table, calls_policy}

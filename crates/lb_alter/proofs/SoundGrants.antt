@@ -104,8 +104,8 @@ module _ (K : Checks) (steady : IsSteady K) (C : Cat) (T : Tables) (s : IsSound 
         entries = record { privileges = all_kept GrantsSomething (is_grant_on n) g (has_none p) u.privileges h.entries.privileges (λ e. e); held = h.entries.held };
       }
 
-  pub with_user_rights_sound : (given : Bool) (rs : List Privilege) (n : List ℕ) → HasTable C n → (u : User) → UserIsSound C u → UserIsSound C (with_user_privileges given rs n u)
-  with_user_rights_sound given rs n r u h = with_privileges_sound n (with_privileges given rs (privileges_on n u)) r u h
+  pub with_user_privileges_sound : (given : Bool) (rs : List Privilege) (n : List ℕ) → HasTable C n → (u : User) → UserIsSound C u → UserIsSound C (with_user_privileges given rs n u)
+  with_user_privileges_sound given rs n r u h = with_privileges_sound n (with_privileges given rs (privileges_on n u)) r u h
 
   -- ---- holdings
 

@@ -18,12 +18,13 @@ use Rattle.lb_rows.specs.Tables.{Tables}
 use Rattle.lb_rows.specs.Lists.{put, without}
 use Rattle.lb_cat.specs.Catalog.{Cat, Table, Policy, Component, User, table_named, policy_named, component_named, has_role, is_role, is_component, is_policy, is_among, put_role, drop_role, put_component, drop_component, put_policy}
 use Rattle.lb_alter.specs.ChangeGrant.{create_role, has_role_of, the_role, drop_role_of}
-use Rattle.lb_alter.specs.ChangeLabel.{kind_of_definition, elements_of, with_elements, create_component, policy_name, has_component, drop_component_of, components_refusal, definition_of, definition_named, new_policy, create_policy, user_name}
-use Rattle.lb_alter.specs.ChangeTable.{has_label, policy_of, in_use}
+use Rattle.lb_alter.specs.ChangeLabel.{user_name}
+use Rattle.lb_alter.specs.ChangePolicy.{kind_of_definition, elements_of, with_elements, create_component, policy_name, has_component, drop_component_of, components_refusal, definition_of, definition_named, new_policy, create_policy}
+use Rattle.lb_alter.specs.ChangeTable.{has_label, policy_of}
 use Rattle.lb_alter.specs.Deps.{in_table, policy_of_table, components_of}
 use Rattle.lb_alter.specs.Labelled.{IsPolicyLabel, HoldsLabels, StandsUnder}
 use Rattle.lb_alter.specs.Named.{AreDifferent, IfGiven, HasTable, HasPolicy, HasComponent, HasRole, HasFoldedNames}
-use Rattle.lb_alter.specs.Refusing.{OrRefused, ◌>>=◌, when, earliest, secadm, done}
+use Rattle.lb_alter.specs.Refusing.{in_use, OrRefused, ◌>>=◌, when, earliest, secadm, done}
 use Rattle.lb_alter.specs.Sound.{IsSound, IsWellMade}
 use Rattle.lb_alter.specs.Steady.{IsSteady}
 use Rattle.lb_alter.specs.Stored.{Checks, mentioned_in}

@@ -22,18 +22,19 @@ use Rattle.lb_rows.specs.Lists.{without}
 use Rattle.lb_cat.specs.Catalog.{Cat, Table, Policy, User, policy_named, label_named, is_label, is_policy, is_among, put_policy}
 use Rattle.lb_cat.specs.Holdings.{is_same_name, no_holding, holds_label}
 use Rattle.lb_names.specs.Mentions.{Mentions, table, policy, label, is_label_mention}
-use Rattle.lb_alter.specs.ChangeLabel.{has_policy, table_name, user_name, parts_refusal, part_for, part_of, listed_for, label_parts, create_label, holds, is_secured_with, secures_with, drop_label}
-use Rattle.lb_alter.specs.ChangeTable.{has_label, policy_of, in_use}
+use Rattle.lb_alter.specs.ChangeLabel.{user_name, parts_refusal, part_for, part_of, listed_for, label_parts, create_label, holds, is_secured_with, secures_with, drop_label}
+use Rattle.lb_alter.specs.ChangePolicy.{has_policy, table_name}
+use Rattle.lb_alter.specs.ChangeTable.{has_label, policy_of}
 use Rattle.lb_alter.specs.Labelled.{IsPolicyLabel, ColumnBelongs, LabelsBelong, HoldsLabels, HeldLabelsAreThere, StandsUnder}
 use Rattle.lb_alter.specs.Named.{AreDifferent, are_different, IfGiven, HasPolicy, HasDifferentLabels}
-use Rattle.lb_alter.specs.Refusing.{when, secadm}
+use Rattle.lb_alter.specs.Refusing.{in_use, when, secadm}
 use Rattle.lb_alter.specs.Sound.{IsSound}
 use Rattle.lb_alter.specs.Steady.{StaysNamed, IsSteady}
 use Rattle.lb_alter.specs.Stored.{Checks, mentioned_in, calls_label}
 use Rattle.lb_alter.proofs.SoundGrants.{different_filter, found_then}
 use Rattle.lb_alter.proofs.SoundKinds.{none_found, not_in_use, is_new}
-use Rattle.lb_alter.proofs.SoundParts.{Stands, InPermissions, InMasks, stored_apart, TableIsSound, PolicyIsSound, Parts, apart, together, Reads, stored_moves, Sources}
-use Rattle.lb_alter.proofs.SoundTables.{Always, put_case, there_put, there_without, stands_follow, permissions_follow, masks_follow, belonging_follows, user_moves, sources_follow}
+use Rattle.lb_alter.proofs.SoundParts.{InPermissions, InMasks, stored_apart, TableIsSound, PolicyIsSound, Parts, apart, together, Reads, stored_moves, Sources}
+use Rattle.lb_alter.proofs.SoundTables.{Always, put_case, there_put, there_without, permissions_follow, masks_follow, belonging_follows, user_moves, sources_follow}
 use Rattle.lb_alter.proofs.SoundUsers.{UserIsSound, LeavesSound, test_sound, done_sound, all_put, all_filter, all_follow, all_found, all_append, different_put, and_left, and_right, not_so, both}
 use Rattle.lb_alter.proofs.Untouched.{or_left, or_right, turned, named_there}
 

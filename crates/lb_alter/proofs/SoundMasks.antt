@@ -18,10 +18,9 @@ use Rattle.lb_rows.specs.Lists.{put}
 use Rattle.lb_cat.specs.Catalog.{Cat, Table, table_named, is_table, is_column, is_mask, put_table}
 use Rattle.lb_names.specs.Mentions.{in_expr, tables_in, policies_in}
 use Rattle.lb_alter.specs.ChangeControl.{correlation_of, has_permission, source_refusal, is_replaced, takes_mask_name, mask_name, other_mask, type_at, new_mask, with_mask, create_mask, is_bad_source}
-use Rattle.lb_alter.specs.ChangeTable.{exists_already}
 use Rattle.lb_alter.specs.Columns.{IsPlace, has_mask_twice}
 use Rattle.lb_alter.specs.Named.{HasTable, HasPolicy, IsGoodSource}
-use Rattle.lb_alter.specs.Refusing.{when, secadm}
+use Rattle.lb_alter.specs.Refusing.{exists_already, when, secadm}
 use Rattle.lb_alter.specs.Sound.{IsSound}
 use Rattle.lb_alter.specs.Steady.{IsWider, IsSteady}
 use Rattle.lb_alter.specs.Stored.{Checks}
@@ -31,9 +30,9 @@ use Rattle.lb_alter.proofs.SoundColumns.{none_already}
 use Rattle.lb_alter.proofs.SoundGrants.{found_then}
 use Rattle.lb_alter.proofs.SoundKinds.{is_new, none_found}
 use Rattle.lb_alter.proofs.SoundLabels.{any_none}
-use Rattle.lb_alter.proofs.SoundParts.{Stands, named_from, together, table_names, IsSource, Sources, all_both}
+use Rattle.lb_alter.proofs.SoundParts.{named_from, together, table_names, IsSource, Sources, all_both}
 use Rattle.lb_alter.proofs.SoundStored.{all_other, none_does, no_bad}
-use Rattle.lb_alter.proofs.SoundTables.{there_put, stands_follow, Names, names_front, refitted, refitted_wider, refitted_sound, put_wider, sources_follow, stays_plain}
+use Rattle.lb_alter.proofs.SoundTables.{there_put, Names, names_front, refitted, refitted_wider, some_column, refitted_sound, put_wider, sources_follow, stays_plain}
 use Rattle.lb_alter.proofs.SoundUsers.{LeavesSound, test_sound, done_sound, all_put, all_follow, all_append, among_put, different_put}
 use Rattle.lb_alter.proofs.Untouched.{or_left, or_right, named_there}
 
@@ -114,7 +113,7 @@ module _ (n : List ℕ) (r : MaskRec) where
       ] refl
 
 module _ (K : Checks) (steady : IsSteady K) (C : Cat) (T : Tables) (s : IsSound K C) (d : MaskDef) (t : Table) (e : table_named C d.on.table ≡ Some t) (column : ℕ) (place : column < length t.columns)
-    (names_right : K.mask_names C d.on d.value ≡ None) (types_right : K.mask_types C d.on (type_at t column) d.value ≡ None)
+    (names_hold : K.mask_names C d.on d.value ≡ None) (types_hold : K.mask_types C d.on (type_at t column) d.value ≡ None)
     (taken : AllByRecursion (λ (x : Table). takes_mask_name d column x ≡ false) C.tables) (own : takes_mask_name d column t ≡ false) (alone : other_mask d.name column t ≡ None)
     (good : AllByRecursion (IsGoodSource C t.name) (tables_in (in_expr d.value))) where
   abbrev pub masks_after : List MaskRec
@@ -136,7 +135,7 @@ module _ (K : Checks) (steady : IsSteady K) (C : Cat) (T : Tables) (s : IsSound 
   its_own = by_own_name C d.on.table t e
 
   wider : IsWider t Masked
-  wider = refitted_wider t t.row_control t.column_control t.public t.permissions (put (is_mask d.name) (new_mask K C column d) t.masks)
+  wider = refitted_wider t t.row_control t.column_control t.public t.permissions (put (is_mask d.name) (new_mask K C column d) t.masks) (some_column K C s d.on.table t e)
 
   off_masks : (x : Table) (ms : List MaskRec) → is_table d.on.table x ≡ false → list_any (λ m. is_mask d.name m && not (is_replaced d column x m)) ms ≡ false → list_any (is_mask d.name) ms ≡ false
   off_masks x [] off h = refl
@@ -165,7 +164,7 @@ module _ (K : Checks) (steady : IsSteady K) (C : Cat) (T : Tables) (s : IsSound 
   found_at = column_at t.columns column place
 
   keeps : KeepsMaskRules K C d.on found_at.column.ty d.value
-  keeps = record { names = names_right; types = subst (λ (ty : Ty). K.mask_types C d.on ty d.value ≡ None) found_at.type types_right }
+  keeps = record { names = names_hold; types = subst (λ (ty : Ty). K.mask_types C d.on ty d.value ≡ None) found_at.type types_hold }
 
   stands_too : AllByRecursion (Sources After t.name) (in_expr (K.qualified_mask C d.on d.value))
   stands_too =
@@ -178,9 +177,9 @@ module _ (K : Checks) (steady : IsSteady K) (C : Cat) (T : Tables) (s : IsSound 
   first : MaskRec
   first = record { name = []; column = column; correlation = correlation_of d.on; value = K.qualified_mask C d.on d.value; enabled = true }
 
-  is_right : IsValidMask K After t (new_mask K C column d)
+  is_valid_there : IsValidMask K After t (new_mask K C column d)
   unfolding first
-  is_right =
+  is_valid_there =
       let q : IsValidMask K C t first = steady.qualifies_mask C t d.on column found_at.column d.value e found_at.there keeps in
       let ty : TypesAt K C t first (Some found_at.column) = subst (TypesAt K C t first) found_at.there q.types in
       let w : KeepsMaskRules K After (called t (correlation_of d.on)) found_at.column.ty (K.qualified_mask C d.on d.value) =
@@ -204,8 +203,8 @@ module _ (K : Checks) (steady : IsSteady K) (C : Cat) (T : Tables) (s : IsSound 
         places = all_put (λ (m : MaskRec). IsPlace t m.column) (is_mask d.name) (new_mask K C column d) t.masks h.columns.masked place;
         once = twice_put d.name (new_mask K C column d) t.masks h.label_columns.masks (same_column t.masks (any_none _ t.masks (or_right (has_permission d.name t) _ own)))
             (other_column t.masks (none_found _ t.masks (mapped_none _ alone)));
-        right = h.stored.permissions;
-        right_masks = all_put (IsValidMask K After t) (is_mask d.name) (new_mask K C column d) t.masks h.stored.masks is_right;
+        valid = h.stored.permissions;
+        valid_masks = all_put (IsValidMask K After t) (is_mask d.name) (new_mask K C column d) t.masks h.stored.masks is_valid_there;
       }) h))
 
 module _ (K : Checks) (steady : IsSteady K) (C : Cat) (T : Tables) (s : IsSound K C) where

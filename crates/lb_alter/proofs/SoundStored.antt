@@ -23,8 +23,8 @@ use Rattle.lb_alter.proofs.SoundAlters.{by_own_name}
 use Rattle.lb_alter.proofs.SoundGrants.{found_then}
 use Rattle.lb_alter.proofs.SoundKinds.{is_new, none_found}
 use Rattle.lb_alter.proofs.SoundLabels.{any_none}
-use Rattle.lb_alter.proofs.SoundParts.{Stands, named_from, together, table_names, IsSource, Sources, all_both}
-use Rattle.lb_alter.proofs.SoundTables.{there_put, stands_follow, Names, names_behind, refitted, refitted_wider, refitted_sound, put_wider, sources_follow, stays_plain}
+use Rattle.lb_alter.proofs.SoundParts.{named_from, together, table_names, IsSource, Sources, all_both}
+use Rattle.lb_alter.proofs.SoundTables.{there_put, Names, names_behind, refitted, refitted_wider, some_column, refitted_sound, put_wider, sources_follow, stays_plain}
 use Rattle.lb_alter.proofs.SoundUsers.{LeavesSound, test_sound, done_sound, all_put, all_follow, all_append, among_put, different_put}
 use Rattle.lb_alter.proofs.Untouched.{or_left, or_right, turned, named_there}
 
@@ -79,7 +79,7 @@ module _ (K : Checks) (steady : IsSteady K) (C : Cat) (T : Tables) (s : IsSound 
   Allowed = put_table Permitted C
 
   wider : IsWider t Permitted
-  wider = refitted_wider t t.row_control t.column_control t.public (put (is_permission d.name) (new_permission K C d) t.permissions) t.masks
+  wider = refitted_wider t t.row_control t.column_control t.public (put (is_permission d.name) (new_permission K C d) t.permissions) t.masks (some_column K C s d.on.table t e)
 
   named_there_too : AllByRecursion (Sources Allowed t.name) (in_cond (K.qualified_condition C d.on d.condition))
   named_there_too =
@@ -89,8 +89,8 @@ module _ (K : Checks) (steady : IsSteady K) (C : Cat) (T : Tables) (s : IsSound 
       (sources_follow C Allowed (λ n z. there_put (λ (x : Table). x.name) Permitted C.tables n z) (λ n z. z) (stays_plain K steady C T s t Permitted (by_own_name C d.on.table t e) refl wider) t.name) (in_cond d.condition)
       (named_from (IsSource C t.name) (HasPolicy C) (in_cond d.condition) (all_both (HasTable C) (IsGoodSource C t.name) (tables_in (in_cond d.condition)) h.0 good) h.1))
 
-  is_right : IsValid K Allowed t (new_permission K C d)
-  is_right =
+  is_valid_there : IsValid K Allowed t (new_permission K C d)
+  is_valid_there =
       let q : IsValid K C t (record { name = []; correlation = correlation_of d.on; condition = K.qualified_condition C d.on d.condition; enabled = true }) = steady.qualifies C t d.on d.condition e keeps in
       let w : KeepsRules K Allowed (called t (correlation_of d.on)) (K.qualified_condition C d.on d.condition) =
       steady.widens C t Permitted (called t (correlation_of d.on)) (K.qualified_condition C d.on d.condition) (by_own_name C d.on.table t e) wider q.qualified (record { names = q.names; types = q.types }) in
@@ -100,15 +100,15 @@ module _ (K : Checks) (steady : IsSteady K) (C : Cat) (T : Tables) (s : IsSound 
   permitted_sound =
       together K Allowed
       (put_wider K steady C T s t Permitted (by_own_name C d.on.table t e) refl
-      (refitted_wider t t.row_control t.column_control t.public (put (is_permission d.name) (new_permission K C d) t.permissions) t.masks) OtherName (others C.tables taken) names
+      wider OtherName (others C.tables taken) names
       (λ h. refitted_sound K Allowed t t.row_control t.column_control t.public (put (is_permission d.name) (new_permission K C d) t.permissions) t.masks
       (record {
         permissions = all_put (λ (y : PermissionRec). AllByRecursion (Sources Allowed t.name) (in_cond y.condition)) (is_permission d.name) (new_permission K C d) t.permissions h.permissions named_there_too;
         masks = h.masks;
         places = h.columns.masked;
         once = h.label_columns.masks;
-        right = all_put (IsValid K Allowed t) (is_permission d.name) (new_permission K C d) t.permissions h.stored.permissions is_right;
-        right_masks = h.stored.masks;
+        valid = all_put (IsValid K Allowed t) (is_permission d.name) (new_permission K C d) t.permissions h.stored.permissions is_valid_there;
+        valid_masks = h.stored.masks;
       }) h))
 
 pub no_bad : (n : List ℕ) (o : Option (List ℕ)) → bad_source_of n o ≡ None → o ≡ None

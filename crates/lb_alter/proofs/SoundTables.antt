@@ -19,7 +19,7 @@ use Rattle.lb_cat.specs.Catalog.{Cat, Table, User, table_named, is_table, is_amo
 use Rattle.lb_names.specs.Mentions.{Mention, table, policy, label, in_cond, in_expr}
 use Rattle.lb_alter.specs.ChangeControl.{has_labels}
 use Rattle.lb_alter.specs.ChangeTable.{is_label_type, is_label_column}
-use Rattle.lb_alter.specs.Columns.{IsPlace, has_mask_twice, HasKeyColumn}
+use Rattle.lb_alter.specs.Columns.{HasFewColumns, IsPlace, has_mask_twice, HasKeyColumn}
 use Rattle.lb_alter.specs.Labelled.{IsLabelHere, ColumnBelongs, LabelsBelong, HoldsLabels}
 use Rattle.lb_alter.specs.Named.{AreDifferent, IfGiven, HasTable, HasPolicy, HasRole}
 use Rattle.lb_alter.specs.Refusing.{alters}
@@ -375,12 +375,16 @@ nothing_more : (cs : List ColumnRec) → list_any is_label_column (drop (length 
 nothing_more [] = refl
 nothing_more (c ∷ cs) = nothing_more cs
 
--- the table with another control, other rights of all users, other permissions and masks
+-- a table of a sound catalogue has a column
+pub some_column : (K : Checks) (C : Cat) → IsSound K C → (n : List ℕ) (t : Table) → table_named C n ≡ Some t → 1 ≤ length t.columns
+some_column K C s n t e = let h : HasFewColumns t = all_found HasFewColumns (is_table n) C.tables t s.limits.columns e in h.some
+
+-- the table with another control, other privileges of all users, other permissions and masks
 abbrev pub refitted : Table → Bool → Bool → Privileges → List PermissionRec → List MaskRec → Table
 refitted t row column public ps ms = record t { row_control = row; column_control = column; public = public; permissions = ps; masks = ms }
 
-pub refitted_wider : (t : Table) (row column : Bool) (public : Privileges) (ps : List PermissionRec) (ms : List MaskRec) → IsWider t (refitted t row column public ps ms)
-refitted_wider t row column public ps ms = record { name = refl; more = drop (length t.columns) t.columns; same = same_columns t.columns; rest = refl; plain = nothing_more t.columns }
+pub refitted_wider : (t : Table) (row column : Bool) (public : Privileges) (ps : List PermissionRec) (ms : List MaskRec) → 1 ≤ length t.columns → IsWider t (refitted t row column public ps ms)
+refitted_wider t row column public ps ms some = record { name = refl; some = some; more = drop (length t.columns) t.columns; same = same_columns t.columns; rest = refl; plain = nothing_more t.columns }
 
 -- what is asked of the other permissions and masks
 pub record Refits (K : Checks) (D : Cat) (t : Table) (ps : List PermissionRec) (ms : List MaskRec) : Type 0 where
@@ -388,11 +392,11 @@ pub record Refits (K : Checks) (D : Cat) (t : Table) (ps : List PermissionRec) (
   pub masks : InMasks (Sources D t.name) ms
   pub places : AllByRecursion (λ (m : MaskRec). IsPlace t m.column) ms
   pub once : has_mask_twice ms ≡ false
-  pub right : AllByRecursion (IsValid K D t) ps
-  pub right_masks : AllByRecursion (IsValidMask K D t) ms
+  pub valid : AllByRecursion (IsValid K D t) ps
+  pub valid_masks : AllByRecursion (IsValidMask K D t) ms
 
 pub refits_old : (K : Checks) (D : Cat) (t : Table) → TableIsSound K D t → Refits K D t t.permissions t.masks
-refits_old K D t h = record { permissions = h.permissions; masks = h.masks; places = h.columns.masked; once = h.label_columns.masks; right = h.stored.permissions; right_masks = h.stored.masks }
+refits_old K D t h = record { permissions = h.permissions; masks = h.masks; places = h.columns.masked; once = h.label_columns.masks; valid = h.stored.permissions; valid_masks = h.stored.masks }
 
 -- a mask that is called and says the same is of the same kind
 pub retyped : (K : Checks) (D : Cat) (t u : Table) (m o : MaskRec) → called t m.correlation ≡ called u o.correlation → m.value ≡ o.value → (c : Option ColumnRec) → TypesAt K D t m c → TypesAt K D u o c
@@ -415,8 +419,8 @@ module _ (K : Checks) (D : Cat) (t : Table) (row column : Bool) (public : Privil
     label_columns = record { one = h.label_columns.one; key = h.label_columns.key; secured = h.label_columns.secured; masks = r.once };
     belonging = all_follow (ColumnBelongs D t) (ColumnBelongs D (refitted t row column public ps ms)) (λ c i. record { label = i.label; secured = i.secured }) t.columns h.belonging;
     stored = record {
-      permissions = all_follow (IsValid K D t) (IsValid K D (refitted t row column public ps ms)) (λ p i. record { names = i.names; types = i.types; qualified = i.qualified }) ps r.right;
-      masks = all_follow (IsValidMask K D t) (IsValidMask K D (refitted t row column public ps ms)) (λ m i. record { names = i.names; types = retyped K D t (refitted t row column public ps ms) m m refl refl (slice_get t.columns m.column) i.types; qualified = i.qualified }) ms r.right_masks;
+      permissions = all_follow (IsValid K D t) (IsValid K D (refitted t row column public ps ms)) (λ p i. record { names = i.names; types = i.types; qualified = i.qualified }) ps r.valid;
+      masks = all_follow (IsValidMask K D t) (IsValidMask K D (refitted t row column public ps ms)) (λ m i. record { names = i.names; types = retyped K D t (refitted t row column public ps ms) m m refl refl (slice_get t.columns m.column) i.types; qualified = i.qualified }) ms r.valid_masks;
     };
   }
 
@@ -428,7 +432,7 @@ module _ (K : Checks) (steady : IsSteady K) (C : Cat) (T : Tables) (s : IsSound 
   refits_sound ps ms names f =
       let u : Table = refitted t row column public ps ms in
       done_sound K (put_table u C) T (keys.Table t.name ∷ [])
-      (put_wider_sound K steady C T s t u there refl (refitted_wider t row column public ps ms) names (λ h. refitted_sound K (put_table u C) t row column public ps ms (f h) h))
+      (put_wider_sound K steady C T s t u there refl (refitted_wider t row column public ps ms (some_column K C s t.name t there)) names (λ h. refitted_sound K (put_table u C) t row column public ps ms (f h) h))
 
   pub controls_sound : LeavesSound K (alters C T (refitted t row column public t.permissions t.masks))
   controls_sound =

@@ -1,5 +1,5 @@
 -- A change of one user's record leaves a sound catalogue sound.
-use Rattle.std.proofs.Common.{◌≡◌, refl, subst, ◌∙◌, ℕ, Bool, true, false, cond, not, ◌&&◌, List, [], ◌∷◌, ◌++◌, map, Option, Some, None, Ok, Err}
+use Rattle.std.proofs.Common.{◌≡◌, refl, subst, ℕ, Bool, true, false, cond, not, ◌&&◌, List, [], ◌∷◌, ◌++◌, map, Option, Some, None, Ok, Err}
 use Rattle.std.specs.Prelude.{find, filter, unwrap_or, slice_get}
 use Rattle.std.specs.List.{AllByRecursion}
 use Rattle.std.specs.Str.{bytes_eq}
@@ -15,8 +15,8 @@ use Rattle.lb_cat.specs.declared.refusal.Refusal.TheVariants as refusals
 use Rattle.lb_rows.specs.Tables.{Tables}
 use Rattle.lb_rows.specs.Lists.{put, without}
 use Rattle.lb_cat.specs.Keys.{same_key, once}
-use Rattle.lb_cat.specs.Catalog.{Cat, Table, User, policy_named, is_user, no_user, is_among, has_role, put_user}
-use Rattle.lb_names.specs.Mentions.{Mentions, table, policies_in, in_cond, in_expr}
+use Rattle.lb_cat.specs.Catalog.{Cat, Table, User, is_user, no_user, is_among, has_role, put_user}
+use Rattle.lb_names.specs.Mentions.{Mentions, table, in_cond, in_expr}
 use Rattle.lb_alter.specs.ChangeGrant.{user_or_new, grants, revokes, taken_from, with_secadm, with_role, without_role, has_role_of, the_role, grant_secadm, revoke_secadm, grant_role, revoke_role}
 use Rattle.lb_alter.specs.Deps.{deps_of, tables_for, policies_for, components_for}
 use Rattle.lb_alter.specs.Frame.{SameRecord, SameOn}

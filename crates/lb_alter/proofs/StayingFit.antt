@@ -1,10 +1,9 @@
 -- Each change keeps that the rows fit, statement by statement.
-use Rattle.std.proofs.Common.{◌≡◌, refl, ℕ, true, false, not, cond, ◌||◌, ◌*◌, ◌+◌, List, [], ◌∷◌, ◌++◌, map, length, Option, Some, None, Ok, Err, is_some, is_none}
-use Rattle.std.specs.Prelude.{find, filter, filter_map, position, option_map, nat_le, nat_lt, if◌then◌else◌}
+use Rattle.std.proofs.Common.{◌≡◌, refl, ℕ, true, false, not, ◌||◌, ◌*◌, ◌+◌, List, [], ◌∷◌, map, length, Option, Some, None, Ok, Err, is_some, is_none}
+use Rattle.std.specs.Prelude.{find, filter, position, option_map, nat_le, nat_lt}
 use Rattle.std.specs.List.{list_any}
-use Rattle.std.specs.Str.{bytes_eq}
 use Rattle.lb_base.specs.declared.key.Key.TheVariants as keys
-use Rattle.lb_label.specs.Component.{Definition, empty_component}
+use Rattle.lb_label.specs.Component.{empty_component}
 use Rattle.lb_stmt.specs.declared.change.Access.{Access}
 use Rattle.lb_stmt.specs.declared.change.Activation.{Activation}
 use Rattle.lb_stmt.specs.declared.change.Change.{Change}
@@ -31,14 +30,16 @@ use Rattle.lb_alter.proofs.SoundAlters.{acts_case, by_own_name}
 use Rattle.lb_alter.proofs.SoundKinds.{is_new, none_found, not_in_use}
 use Rattle.lb_alter.proofs.SoundLabels.{by_own_policy}
 use Rattle.lb_alter.proofs.SoundTables.{refitted}
+use Rattle.lb_alter.specs.AlterTable.{add_column, add_policy, secure_column, unsecure_column}
 use Rattle.lb_alter.specs.Change.{attempt, change}
 use Rattle.lb_alter.specs.ChangeControl.{activate, create_mask, create_permission, drop_mask, drop_permission, has_mask, has_permission, new_mask, new_permission, other_mask, source_refusal, switch_mask, switch_permission, takes_mask_name, takes_permission_name, type_at, with_acts, with_mask, with_permission}
-use Rattle.lb_alter.specs.ChangeGrant.{create_role, drop_role_of, exempting, grant_exemption, grant_label, grant_privileges, grant_role, grant_secadm, grant_to, grants, has_role_of, held_refusal, mismatch, reads, revoke_exemption, revoke_from, revoke_label, revoke_privileges, revoke_role, revoke_secadm, the_role, user_or_new, with_label, with_role, with_secadm, with_user_privileges, without_label, without_role, writes}
-use Rattle.lb_alter.specs.ChangeLabel.{components_refusal, create_component, create_label, create_policy, drop_component_of, drop_label, drop_policy_of, elements_of, first_label, has_component, has_policy, holds, kind_of_definition, new_policy, parts_refusal, policy_name, secures_with, table_name, user_name, with_elements}
-use Rattle.lb_alter.specs.ChangeTable.{add_column, add_policy, columns_in, columns_refusal, create_table, drop_table_of, exists_already, flaws_refusal, in_use, is_label_type, key_refusal, keys_in, policy_of, policy_refusal, secure_column, secured_refusal, unsecure_column, user_key, width_refusal}
+use Rattle.lb_alter.specs.ChangeGrant.{create_role, drop_role_of, exempting, grant_exemption, grant_label, grant_privileges, grant_role, grant_secadm, grant_to, has_role_of, held_refusal, mismatch, reads, revoke_exemption, revoke_from, revoke_label, revoke_privileges, revoke_role, revoke_secadm, the_role, user_or_new, with_label, with_role, with_secadm, with_user_privileges, without_label, without_role, writes}
+use Rattle.lb_alter.specs.ChangeLabel.{create_label, drop_label, holds, parts_refusal, secures_with, user_name}
+use Rattle.lb_alter.specs.ChangePolicy.{components_refusal, create_component, create_policy, drop_component_of, drop_policy_of, elements_of, first_label, has_component, has_policy, kind_of_definition, new_policy, policy_name, table_name, with_elements}
+use Rattle.lb_alter.specs.ChangeTable.{columns_in, columns_refusal, create_table, drop_table_of, flaws_refusal, is_label_type, key_refusal, keys_in, policy_of, policy_refusal, secured_refusal, user_key, width_refusal}
 use Rattle.lb_alter.specs.Laws.{TablesStayFit}
 use Rattle.lb_alter.specs.Named.{AreDifferent}
-use Rattle.lb_alter.specs.Refusing.{Changed, OrRefused, alters, each_passes, secadm, settled, when}
+use Rattle.lb_alter.specs.Refusing.{exists_already, in_use, Changed, OrRefused, alters, each_passes, secadm, settled, when}
 use Rattle.lb_alter.specs.Sound.{IsSound}
 use Rattle.lb_alter.specs.Stored.{Checks, calls_label, calls_policy, stored_name, user_of_table}
 use Rattle.lb_cat.specs.Catalog.{Cat, Table, column_named, component_named, drop_component, drop_role, has_role, is_column, label_named, policy_named, put_component, put_role, table_named}
@@ -242,8 +243,8 @@ module _ (K : Checks) (C : Cat) (T : Tables) (s : IsSound K C) (f : EachFits C T
   attempt_fits (changes.RevokeRole role n) = revoke_role_fits role n
   attempt_fits (changes.GrantSecadm n) = grant_secadm_fits n
   attempt_fits (changes.RevokeSecadm n) = revoke_secadm_fits n
-  attempt_fits (changes.GrantPrivileges rights n to) = grant_privileges_fits rights n to
-  attempt_fits (changes.RevokePrivileges rights n from) = revoke_privileges_fits rights n from
+  attempt_fits (changes.GrantPrivileges privileges n to) = grant_privileges_fits privileges n to
+  attempt_fits (changes.RevokePrivileges privileges n from) = revoke_privileges_fits privileges n from
 
 settled_fits : (C : Cat) (T : Tables) → EachFits C T → (m : OrRefused Changed) → LeavesFit m → EachFits (settled C T m).cat (settled C T m).tables
 settled_fits C T f (Ok d) h = h.fits d refl

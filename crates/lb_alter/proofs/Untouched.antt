@@ -36,13 +36,15 @@ use Rattle.lb_cat.specs.Catalog.{Table, Policy, Component, User, Cat, is_table, 
 use Rattle.lb_cat.specs.Privileges.{is_grant_on, has_grant_on, without_grant}
 use Rattle.lb_cat.specs.Holdings.{is_holding_of, holding_of, with_holding, has_holding_of, without_holding, holds_label, with_exemptions, without_exemptions}
 use Rattle.lb_names.specs.Mentions.{in_cond, in_expr}
+use Rattle.lb_alter.specs.AlterTable.{with_null, change_column, plain_column, add_column, add_policy, secure, secure_column, unsecure_column}
 use Rattle.lb_alter.specs.Change.{attempt}
 use Rattle.lb_alter.specs.ChangeControl.{with_acts, activate, is_enabled, has_permission, has_mask, source_refusal, takes_permission_name, new_permission, with_permission, create_permission, takes_mask_name, other_mask, type_at, new_mask, with_mask, create_mask, switch_permission, switch_mask, drop_permission, drop_mask}
 use Rattle.lb_alter.specs.ChangeGrant.{user_or_new, grants, taken_from, revokes, reads, writes, held_refusal, with_label, mismatch, grant_label, without_label, revoke_label, exempting, grant_exemption, revoke_exemption, create_role, has_role_of, the_role, drop_role_of, with_role, without_role, grant_role, revoke_role, with_secadm, grant_secadm, revoke_secadm, with_public, with_user_privileges, grant_to, revoke_from, grant_privileges, revoke_privileges}
-use Rattle.lb_alter.specs.ChangeLabel.{kind_of_definition, elements_of, with_elements, create_component, policy_name, has_component, drop_component_of, components_refusal, new_policy, create_policy, has_policy, table_name, first_label, drop_policy_of, parts_refusal, label_parts, create_label, user_name, holds, secures_with, drop_label}
-use Rattle.lb_alter.specs.ChangeTable.{width_refusal, is_label_type, columns_in, keys_in, columns_refusal, key_refusal, policy_refusal, flaws_refusal, secured_refusal, policy_of, new_table, create_table, in_use, user_key, drop_table_of, with_null, change_column, plain_column, add_column, exists_already, add_policy, secure, secure_column, unsecure_column}
+use Rattle.lb_alter.specs.ChangeLabel.{parts_refusal, label_parts, create_label, user_name, holds, secures_with, drop_label}
+use Rattle.lb_alter.specs.ChangePolicy.{kind_of_definition, elements_of, with_elements, create_component, policy_name, has_component, drop_component_of, components_refusal, new_policy, create_policy, has_policy, table_name, first_label, drop_policy_of}
+use Rattle.lb_alter.specs.ChangeTable.{width_refusal, is_label_type, columns_in, keys_in, columns_refusal, key_refusal, policy_refusal, flaws_refusal, secured_refusal, policy_of, new_table, create_table, user_key, drop_table_of}
 use Rattle.lb_alter.specs.Frame.{SameRecord, SameRows, UntouchedStays}
-use Rattle.lb_alter.specs.Refusing.{Changed, OrRefused, ◌>>=◌, ◌>>◌, when, each_passes, found, the_table, the_policy, the_label, owner, secadm, done, alters, alters_policy, settled}
+use Rattle.lb_alter.specs.Refusing.{in_use, exists_already, Changed, OrRefused, ◌>>=◌, ◌>>◌, when, each_passes, found, the_table, the_policy, the_label, owner, secadm, done, alters, alters_policy, settled}
 use Rattle.lb_alter.specs.Stored.{Checks, stored_name, user_of_table, calls_policy, calls_label}
 
 -- ---- lists of records
@@ -533,8 +535,8 @@ attempt_stays K C T user (changes.GrantRole role n) = grant_role_stays C T user 
 attempt_stays K C T user (changes.RevokeRole role n) = revoke_role_stays C T user role n
 attempt_stays K C T user (changes.GrantSecadm n) = grant_secadm_stays C T user n
 attempt_stays K C T user (changes.RevokeSecadm n) = revoke_secadm_stays C T user n
-attempt_stays K C T user (changes.GrantPrivileges rights n to) = grant_privileges_stays C T user rights n to
-attempt_stays K C T user (changes.RevokePrivileges rights n from) = revoke_privileges_stays C T user rights n from
+attempt_stays K C T user (changes.GrantPrivileges privileges n to) = grant_privileges_stays C T user privileges n to
+attempt_stays K C T user (changes.RevokePrivileges privileges n from) = revoke_privileges_stays C T user privileges n from
 
 settled_stays : (C : Cat) (T : Tables) (m : OrRefused Changed) → Stays C T m → (k : Key) → has_key k (settled C T m).touched ≡ false
     → SameRecord C (settled C T m).cat k × SameRows T (settled C T m).tables k

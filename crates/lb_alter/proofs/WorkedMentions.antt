@@ -1,15 +1,14 @@
 -- What the conditions of worked examples name.
-use Rattle.std.proofs.Common.{◌≡◌, ap, ◌∙◌, List, [], ◌∷◌, ◌++◌, codes, false, None}
+use Rattle.std.proofs.Common.{◌≡◌, ap, ◌∙◌, [], ◌∷◌, ◌++◌, codes, false, None}
 use Rattle.lb_names.specs.Mentions.{Mentions, table, policy, all_of, naming, naming_steps, in_cond}
 use Rattle.lb_tree.proofs.Opens.{cond_exists, cond_isnull, expr_atom, query_roll, item_everything, chain_roll}
 use Rattle.lb_tree.specs.declared.query.Cond.TheViews.{roll-Chain}
 use Rattle.lb_tree.specs.declared.query.Atom.TheVariants as atoms
 use Rattle.lb_tree.specs.declared.query.Expr.TheVariants as exprs
 use Rattle.lb_tree.specs.declared.query.Item.TheVariants as items
-use Rattle.lb_tree.specs.Folds.{item_of, chain_of}
-use Rattle.lb_alter.specs.Worked.{asks_teller, reads_teller}
+use Rattle.lb_tree.specs.Folds.{chain_of}
+use Rattle.lb_alter.specs.WorkedAnswers.{asks_teller, reads_teller}
 use Rattle.lb_alter.specs.WorkedControls.{asks_policy}
-use Rattle.std.specs.Prelude.{filter}
 
 -- a query of one item and one chain, by what these name
 abbrev joined : Mentions → Mentions → Mentions

@@ -4,12 +4,14 @@ use Rattle.lb_stmt.specs.declared.change.Change.{Change}
 use Rattle.lb_stmt.specs.declared.change.Change.TheVariants as changes
 use Rattle.lb_rows.specs.Tables.{Tables}
 use Rattle.lb_cat.specs.Catalog.{Cat}
-use Rattle.lb_alter.specs.Stored.{Checks}
-use Rattle.lb_alter.specs.Refusing.{Changed, OrRefused, settled}
-use Rattle.lb_alter.specs.ChangeTable.{create_table, drop_table_of, add_column, add_policy, secure_column, unsecure_column}
+use Rattle.lb_alter.specs.AlterTable.{add_column, add_policy, secure_column, unsecure_column}
 use Rattle.lb_alter.specs.ChangeControl.{activate, create_permission, create_mask, switch_permission, switch_mask, drop_permission, drop_mask}
-use Rattle.lb_alter.specs.ChangeLabel.{create_component, drop_component_of, create_policy, drop_policy_of, create_label, drop_label}
 use Rattle.lb_alter.specs.ChangeGrant.{grant_label, revoke_label, grant_exemption, revoke_exemption, create_role, drop_role_of, grant_role, revoke_role, grant_secadm, revoke_secadm, grant_privileges, revoke_privileges}
+use Rattle.lb_alter.specs.ChangeLabel.{create_label, drop_label}
+use Rattle.lb_alter.specs.ChangePolicy.{create_component, drop_component_of, create_policy, drop_policy_of}
+use Rattle.lb_alter.specs.ChangeTable.{create_table, drop_table_of}
+use Rattle.lb_alter.specs.Refusing.{Changed, OrRefused, settled}
+use Rattle.lb_alter.specs.Stored.{Checks}
 
 -- what the user's statement makes of the catalogue and the rows, or its first refusal
 abbrev pub attempt : Checks → Cat → Tables → List ℕ → Change → OrRefused Changed
@@ -42,8 +44,8 @@ attempt K C T user (changes.GrantRole role n) = grant_role C T user role n
 attempt K C T user (changes.RevokeRole role n) = revoke_role C T user role n
 attempt K C T user (changes.GrantSecadm n) = grant_secadm C T user n
 attempt K C T user (changes.RevokeSecadm n) = revoke_secadm C T user n
-attempt K C T user (changes.GrantPrivileges rights n to) = grant_privileges C T user rights n to
-attempt K C T user (changes.RevokePrivileges rights n from) = revoke_privileges C T user rights n from
+attempt K C T user (changes.GrantPrivileges privileges n to) = grant_privileges C T user privileges n to
+attempt K C T user (changes.RevokePrivileges privileges n from) = revoke_privileges C T user privileges n from
 
 -- what the user's statement answers and leaves
 abbrev pub change : Checks → Cat → Tables → List ℕ → Change → Changed

@@ -1,9 +1,7 @@
--- CREATE TABLE, DROP TABLE and ALTER TABLE without activation.
-use Rattle.std.specs.Prelude.{ℕ, ℤ, pos, negsuc, nat_lt, nat_le, ◌+◌, ◌*◌, Bool, true, false, not, ◌&&◌, ◌||◌, List, [], ◌∷◌, ◌++◌, map, filter, filter_map, position, length, Option, None, Some, is_some, is_none, option_map, option_and_then, unwrap_or, if◌then◌else◌}
+-- CREATE TABLE and DROP TABLE.
+use Rattle.std.specs.Prelude.{ℕ, ℤ, pos, negsuc, nat_lt, nat_le, Bool, true, false, not, ◌&&◌, ◌||◌, List, [], ◌∷◌, map, filter, filter_map, position, length, Option, None, Some, is_some, is_none, option_map, option_and_then, unwrap_or}
 use Rattle.std.specs.List.{list_any}
 use Rattle.std.specs.Str.{bytes_eq}
-use Rattle.lb_base.specs.declared.value.Value.{Value}
-use Rattle.lb_base.specs.declared.value.Value.TheVariants as values
 use Rattle.lb_base.specs.declared.key.Key.{Key}
 use Rattle.lb_base.specs.declared.key.Key.TheVariants as keys
 use Rattle.lb_base.specs.declared.key.Ty.{Ty}
@@ -20,36 +18,42 @@ use Rattle.lb_cat.specs.declared.refusal.Refusal.{Refusal}
 use Rattle.lb_cat.specs.declared.refusal.Refusal.TheVariants as refusals
 use Rattle.lb_cat.specs.declared.refusal.LimitOf.TheVariants as limits
 use Rattle.lb_cat.specs.declared.refusal.Flaw.TheVariants as flaws
-use Rattle.lb_rows.specs.Tables.{Tables, is_version, put_version, rows_of}
+use Rattle.lb_rows.specs.Tables.{Tables, is_version, put_version}
 use Rattle.lb_rows.specs.Lists.{without}
-use Rattle.lb_cat.specs.Catalog.{Cat, Table, Policy, User, table_named, policy_named, label_named, column_named, is_column, is_among, put_table, drop_table}
+use Rattle.lb_cat.specs.Catalog.{Cat, Table, Policy, User, table_named, policy_named, label_named, is_among, put_table, drop_table}
 use Rattle.lb_cat.specs.Privileges.{no_privileges, has_grant_on, without_grant}
+use Rattle.lb_alter.specs.Refusing.{◌>>=◌, ◌>>◌, Changed, OrRefused, when, earliest, each_passes, owner, done, in_use}
 use Rattle.lb_alter.specs.Stored.{stored_name, user_of_table}
-use Rattle.lb_alter.specs.Refusing.{Changed, OrRefused, ◌>>=◌, ◌>>◌, when, earliest, each_passes, found, the_policy, owner, done, alters}
 
 -- ---- types
 
+-- 1 to 254
 abbrev pub is_width : ℤ → Bool
 is_width (pos n) = nat_le 1 n && nat_le n 254
 is_width (negsuc n) = false
 
+-- the width as a number
 abbrev pub width_of : ℤ → ℕ
 width_of (pos n) = n
 width_of (negsuc n) = 0
 
+-- a text column has a width that it may have
 abbrev pub has_width : PlainType → Bool
 has_width plains.Int = true
 has_width (plains.Text width) = is_width width
 has_width plains.Date = true
 
+-- refused for the width
 abbrev pub width_refusal : PlainType → Option Refusal
 width_refusal ty = when (not (has_width ty)) (refusals.Limit limits.Width 254)
 
+-- the type of a column that holds no label
 abbrev pub plain_type : PlainType → Ty
 plain_type plains.Int = types.Int
 plain_type (plains.Text width) = types.Text (width_of width)
 plain_type plains.Date = types.Date
 
+-- the type is that of labels
 abbrev pub is_label_type : Ty → Bool
 is_label_type (types.Label policy) = true
 is_label_type _ = false
@@ -60,14 +64,17 @@ is_label_column c = is_label_type c.ty
 
 -- ---- the elements of CREATE TABLE
 
+-- the column, if the element is one
 abbrev pub column_in : Element → Option ColumnDef
 column_in (elements.Column d) = Some d
 column_in (elements.Key n) = None
 
+-- the name, if the element is PRIMARY KEY
 abbrev pub key_in : Element → Option (List ℕ)
 key_in (elements.Column d) = None
 key_in (elements.Key n) = Some n
 
+-- the columns, in their order
 abbrev pub columns_in : List Element → List ColumnDef
 columns_in es = filter_map column_in es
 
@@ -79,10 +86,12 @@ keys_in es = filter_map key_in es
 abbrev pub is_key : List Element → ColumnDef → Bool
 is_key es d = d.key || is_among (keys_in es) d.name
 
+-- DB2SECURITYLABEL is written
 abbrev pub is_label_kind : ColumnType → Bool
 is_label_kind (column_types.Plain ty) = false
 is_label_kind column_types.Label = true
 
+-- refused for the width of a column
 abbrev pub column_width_refusal : ColumnType → Option Refusal
 column_width_refusal (column_types.Plain ty) = width_refusal ty
 column_width_refusal column_types.Label = None
@@ -96,9 +105,11 @@ columns_refusal before (d ∷ ds) = earliest
     ∷ columns_refusal (d.name ∷ before) ds
     ∷ [])
 
+-- one of the columns has the name
 abbrev pub has_column_named : List ColumnDef → List ℕ → Bool
 has_column_named ds n = list_any (λ d. bytes_eq d.name n) ds
 
+-- refused where PRIMARY KEY names no column of the list
 abbrev pub key_refusal : List ColumnDef → List ℕ → Option Refusal
 key_refusal ds n = when (not (has_column_named ds n)) (refusals.Unknown n)
 
@@ -116,6 +127,7 @@ flaw_refusal protected label_before key_before key d = earliest
     ∷ when (is_label_kind d.ty && (key || is_some d.secured)) (refusals.BadTable d.name flaws.LabelKey)
     ∷ [])
 
+-- the first flaw of a column, in the order of the columns
 abbrev pub flaws_refusal : Bool → Bool → Bool → List Element → List ColumnDef → Option Refusal
 flaws_refusal protected label_before key_before es [] = None
 flaws_refusal protected label_before key_before es (d ∷ ds) = earliest
@@ -128,15 +140,18 @@ abbrev pub has_label : Option Policy → List ℕ → Bool
 has_label None n = false
 has_label (Some p) n = is_some (label_named p n)
 
+-- refused where the policy hasn't the label that is written
 abbrev pub secured_refusal : Option Policy → Option (List ℕ) → Option Refusal
 secured_refusal policy None = None
 secured_refusal policy (Some label) = when (not (has_label policy label)) (refusals.Unknown label)
 
+-- the policy of a table, by its name
 abbrev pub policy_of : Cat → Option (List ℕ) → Option Policy
 policy_of C policy = option_and_then (policy_named C) policy
 
 -- ---- CREATE TABLE
 
+-- the type of a column, where a label column is of the table's policy
 abbrev pub column_type : Option (List ℕ) → ColumnType → Ty
 column_type policy (column_types.Plain ty) = plain_type ty
 column_type policy column_types.Label = types.Label (unwrap_or policy [])
@@ -145,6 +160,7 @@ column_type policy column_types.Label = types.Label (unwrap_or policy [])
 abbrev pub new_column : List Element → Option (List ℕ) → ColumnDef → ColumnRec
 new_column es policy d = record { name = d.name; ty = column_type policy d.ty; not_null = (d.not_null && not (is_label_kind d.ty)) || is_key es d; secured = d.secured }
 
+-- the table of the user, without controls, permissions, masks and privileges
 abbrev pub new_table : List ℕ → List ℕ → List Element → Option (List ℕ) → Table
 new_table user n es policy = record {
   name = n;
@@ -159,6 +175,7 @@ new_table user n es policy = record {
   public = no_privileges;
 }
 
+-- CREATE TABLE, whose user becomes the owner
 abbrev pub create_table : Cat → Tables → List ℕ → List ℕ → List Element → Option (List ℕ) → OrRefused Changed
 create_table C T user n es policy = do
   when (is_some (table_named C n)) (refusals.Exists n)
@@ -173,10 +190,7 @@ create_table C T user n es policy = do
 
 -- ---- DROP TABLE
 
-abbrev pub in_use : List ℕ → Option (List ℕ) → Option Refusal
-in_use n None = None
-in_use n (Some by) = Some (refusals.InUse n by)
-
+-- the key of a user's record
 abbrev pub user_key : User → Key
 user_key u = keys.User u.name
 
@@ -189,57 +203,3 @@ drop_table_of C T user n = do
       (record (drop_table n C) { users = map (without_grant n) C.users })
       (without (is_version n) T)
       (keys.Table n ∷ keys.Rows n ∷ map user_key (filter (has_grant_on n) C.users))
-
--- ---- ALTER TABLE
-
-abbrev pub with_null : List Value → List Value
-with_null row = row ++ values.Null ∷ []
-
--- the columns of that name, changed; the others stay
-abbrev pub change_column : (ColumnRec → ColumnRec) → List ℕ → List ColumnRec → List ColumnRec
-change_column f n cs = map (λ c. if is_column n c then f c else c) cs
-
-abbrev pub plain_column : List ℕ → PlainType → ColumnRec
-plain_column n ty = record { name = n; ty = plain_type ty; not_null = false; secured = None }
-
--- each row gets a null
-abbrev pub add_column : Cat → Tables → List ℕ → List ℕ → List ℕ → PlainType → OrRefused Changed
-add_column C T user n column ty = do
-  t ← owner C user n
-  when (is_some (column_named t column)) (refusals.Exists column)
-  when (nat_le 64 (length t.columns)) (refusals.Limit limits.Columns 64)
-  width_refusal ty
-  when (nat_lt 131072 (length (rows_of n T) * (length t.columns + 1))) (refusals.Limit limits.Cells 131072)
-  done
-      (put_table (record t { columns = t.columns ++ plain_column column ty ∷ [] }) C)
-      (put_version (record { name = t.name; rows = map with_null (rows_of n T) }) T)
-      (keys.Table t.name ∷ keys.Rows t.name ∷ [])
-
-abbrev pub exists_already : Option (List ℕ) → Option Refusal
-exists_already None = None
-exists_already (Some n) = Some (refusals.Exists n)
-
-abbrev pub add_policy : Cat → Tables → List ℕ → List ℕ → List ℕ → OrRefused Changed
-add_policy C T user n policy = do
-  t ← owner C user n
-  exists_already t.policy
-  p ← the_policy C policy
-  alters C T (record t { policy = Some policy })
-
-abbrev pub secure : Option (List ℕ) → ColumnRec → ColumnRec
-secure label c = record c { secured = label }
-
-abbrev pub secure_column : Cat → Tables → List ℕ → List ℕ → List ℕ → List ℕ → OrRefused Changed
-secure_column C T user n column label = do
-  t ← owner C user n
-  c ← found column (column_named t column)
-  when (is_none t.policy) (refusals.BadTable column flaws.NoPolicy)
-  when (is_label_type c.ty) (refusals.BadTable column flaws.LabelKey)
-  secured_refusal (policy_of C t.policy) (Some label)
-  alters C T (record t { columns = change_column (secure (Some label)) column t.columns })
-
-abbrev pub unsecure_column : Cat → Tables → List ℕ → List ℕ → List ℕ → OrRefused Changed
-unsecure_column C T user n column = do
-  t ← owner C user n
-  c ← found column (column_named t column)
-  alters C T (record t { columns = change_column (secure None) column t.columns })

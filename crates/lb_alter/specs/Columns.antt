@@ -9,9 +9,11 @@ use Rattle.lb_cat.specs.Catalog.{Table}
 use Rattle.lb_alter.specs.ChangeTable.{is_label_column}
 use Rattle.lb_alter.specs.Named.{AreDifferent}
 
+-- a place of a column
 abbrev pub IsPlace : Table → ℕ → Type 0
 IsPlace t at = at < length t.columns
 
+-- the column is NOT NULL
 abbrev pub not_null_in : ColumnRec → Bool
 not_null_in c = c.not_null
 
@@ -35,15 +37,18 @@ pub record HasItsColumns (t : Table) : Type 0 where
 abbrev pub IsUnsecuredLabel : ColumnRec → Type 0
 IsUnsecuredLabel c = (is_label_column c && is_some c.secured) ≡ false
 
+-- the column at the place is a label column
 abbrev pub is_label_at : List ColumnRec → ℕ → Bool
 is_label_at [] at = false
 is_label_at (c ∷ cs) zero = is_label_column c
 is_label_at (c ∷ cs) (suc at) = is_label_at cs at
 
+-- no label column stands at the place, if one is given
 abbrev pub IsNoLabelAt : Table → Option ℕ → Type 0
 IsNoLabelAt t None = Unit {0}
 IsNoLabelAt t (Some at) = is_label_at t.columns at ≡ false
 
+-- two masks are on one column
 abbrev pub has_mask_twice : List MaskRec → Bool
 has_mask_twice [] = false
 has_mask_twice (m ∷ ms) = list_any (λ other. other.column == m.column) ms || has_mask_twice ms

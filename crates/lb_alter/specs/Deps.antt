@@ -26,6 +26,7 @@ in_tables C ns = flat_map (λ n. in_table (table_named C n)) ns
 abbrev pub tables_for : Cat → Mentions → List (List ℕ)
 tables_for C ms = tables_in ms ++ tables_in (in_tables C (tables_in ms))
 
+-- the policy of a table that may be missing
 abbrev pub policy_of_table : Option Table → Option (List ℕ)
 policy_of_table None = None
 policy_of_table (Some t) = t.policy
@@ -40,6 +41,7 @@ policies_for C ms =
     filter_map (λ n. policy_of_table (table_named C n)) (tables_for C ms)
     ++ filter is_key_name (policies_in ms ++ policies_in (in_tables C (tables_in ms)))
 
+-- the components of a policy that may be missing
 abbrev pub components_of : Option Policy → List (List ℕ)
 components_of None = []
 components_of (Some p) = p.components
@@ -48,6 +50,7 @@ components_of (Some p) = p.components
 abbrev pub components_for : Cat → Mentions → List (List ℕ)
 components_for C ms = flat_map (λ n. components_of (policy_named C n)) (policies_for C ms)
 
+-- the keys of what some mentions depend on: tables, policies, components
 abbrev pub deps_of : Cat → Mentions → List Key
 deps_of C ms = once
     (map (λ n. keys.Table n) (tables_for C ms)
@@ -64,6 +67,7 @@ write_deps C s user = once (deps C s ++ (map (λ n. keys.Rows n) (tables_for C (
 
 -- ---- touches
 
+-- Rows of the target where rows were written
 abbrev pub touches_if : Reply → List ℕ → List Key
 touches_if (replies.Wrote verb count) target = keys.Rows target ∷ []
 touches_if (replies.Rows rows) target = []
@@ -71,6 +75,7 @@ touches_if replies.Done target = []
 touches_if (replies.Refused r) target = []
 touches_if replies.NoMemory target = []
 
+-- the target is the first of the tables
 abbrev pub targets : List (List ℕ) → Reply → List Key
 targets [] r = []
 targets (n ∷ ns) r = touches_if r n

@@ -4,14 +4,18 @@ use Rattle.lb_base.specs.declared.key.Key.{Key}
 use Rattle.lb_base.specs.Names.{IsFolded}
 use Rattle.lb_stmt.specs.declared.change.Change.{Change}
 use Rattle.lb_stmt.specs.declared.change.Change.TheVariants as changes
+use Rattle.lb_stmt.specs.declared.write.Stmt.{Stmt}
+use Rattle.lb_cat.specs.declared.cred.Cred.{Cred}
 use Rattle.lb_rows.specs.Tables.{Tables}
 use Rattle.lb_cat.specs.Catalog.{Cat, first_cat}
 use Rattle.lb_cat.specs.Credentials.{cred}
-use Rattle.lb_alter.specs.Stored.{Checks}
 use Rattle.lb_alter.specs.Change.{change}
+use Rattle.lb_alter.specs.Deps.{deps}
 use Rattle.lb_alter.specs.Fits.{CredFits, TablesFit}
+use Rattle.lb_alter.specs.Frame.{SameOn}
 use Rattle.lb_alter.specs.Sound.{IsSound}
 use Rattle.lb_alter.specs.Steady.{IsSteady}
+use Rattle.lb_alter.specs.Stored.{Checks}
 
 -- what a statement keeps that was read from a text: CREATE TABLE has an element, and a new policy's name is folded
 abbrev pub IsAsRead : Change → Type 0
@@ -44,3 +48,12 @@ FirstTablesFit = AllTablesFit first_cat []
 -- where the tables of a sound catalogue have rows that fit them, so they do after each change
 abbrev pub TablesStayFit : Checks → Type 0
 TablesStayFit K = (C : Cat) (T : Tables) (user : List ℕ) (s : Change) → IsSound K C → AllTablesFit C T → AllTablesFit (change K C T user s).cat (change K C T user s).tables
+
+-- rows and credentials that fit the second catalogue on what the statement depends on there fit the first on what it depends on there
+pub record FitsMove (C D : Cat) (s : Stmt) : Type 0 where
+  pub rows : (T : Tables) → TablesFit (deps D s) D T → TablesFit (deps C s) C T
+  pub credentials : (c : Cred) → CredFits (deps D s) D c → CredFits (deps C s) C c
+
+-- so they do where both have the same records under what the statement depends on in the first, which is sound
+abbrev pub FitsFollow : Checks → Type 0
+FitsFollow K = (C D : Cat) (s : Stmt) → IsSound K C → SameOn (deps C s) C D → FitsMove C D s

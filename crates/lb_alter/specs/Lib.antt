@@ -1,7 +1,9 @@
+pub mod AlterTable
 pub mod Change
 pub mod ChangeControl
 pub mod ChangeGrant
 pub mod ChangeLabel
+pub mod ChangePolicy
 pub mod ChangeTable
 pub mod Columns
 pub mod Deps
@@ -16,4 +18,5 @@ pub mod Steady
 pub mod Stored
 pub mod Valid
 pub mod Worked
+pub mod WorkedAnswers
 pub mod WorkedControls

@@ -8,14 +8,15 @@ use Rattle.lb_cat.specs.Catalog.{Cat, Table, Policy, User, table_named, policy_n
 use Rattle.lb_cat.specs.Privileges.{has_none}
 use Rattle.lb_cat.specs.Holdings.{is_empty_holding}
 use Rattle.lb_names.specs.Mentions.{tables_in, policies_in}
-use Rattle.lb_alter.specs.Stored.{stored_in, stored_name, mentioned_in}
 use Rattle.lb_alter.specs.ChangeControl.{is_bad_source}
+use Rattle.lb_alter.specs.Stored.{stored_in, stored_name, mentioned_in}
 
 -- no name stands twice
 abbrev pub are_different : List (List ℕ) → Bool
 are_different [] = true
 are_different (n ∷ ns) = not (is_among ns n) && are_different ns
 
+-- the names are different
 abbrev pub AreDifferent : List (List ℕ) → Type 0
 AreDifferent ns = are_different ns ≡ true
 
@@ -31,18 +32,23 @@ pub record HasOneOfEachName (C : Cat) : Type 0 where
 
 -- ---- what records name
 
+-- a table of that name is there
 abbrev pub HasTable : Cat → List ℕ → Type 0
 HasTable C n = is_some (table_named C n) ≡ true
 
+-- a policy
 abbrev pub HasPolicy : Cat → List ℕ → Type 0
 HasPolicy C n = is_some (policy_named C n) ≡ true
 
+-- a component
 abbrev pub HasComponent : Cat → List ℕ → Type 0
 HasComponent C n = is_some (component_named C n) ≡ true
 
+-- a role
 abbrev pub HasRole : Cat → List ℕ → Type 0
 HasRole C n = has_role C n ≡ true
 
+-- it holds of the name, if one is given
 abbrev pub IfGiven : (List ℕ → Type 0) → Option (List ℕ) → Type 0
 IfGiven P None = Unit {0}
 IfGiven P (Some n) = P n
@@ -53,9 +59,11 @@ pub record TableNamesRecords (C : Cat) (t : Table) : Type 0 where
   pub sources : AllByRecursion (HasTable C) (tables_in (mentioned_in t))
   pub calls : AllByRecursion (HasPolicy C) (policies_in (mentioned_in t))
 
+-- the components of a policy are there
 abbrev pub PolicyNamesRecords : Cat → Policy → Type 0
 PolicyNamesRecords C p = AllByRecursion (HasComponent C) p.components
 
+-- the roles of a user, and the tables and policies of the user's entries
 pub record UserNamesRecords (C : Cat) (u : User) : Type 0 where
   pub roles : AllByRecursion (HasRole C) u.roles
   pub granted : AllByRecursion (λ (g : Grant). HasTable C g.table) u.privileges
@@ -75,17 +83,21 @@ HasFoldedNames C = AllByRecursion (λ (p : Policy). IsFolded p.name) C.policies
 abbrev pub IsGoodSource : Cat → List ℕ → List ℕ → Type 0
 IsGoodSource C own n = is_bad_source C own n ≡ false
 
+-- so do all permissions and masks of the table
 abbrev pub ReadsGoodSources : Cat → Table → Type 0
 ReadsGoodSources C t = AllByRecursion (IsGoodSource C t.name) (tables_in (mentioned_in t))
 
 -- ---- names and entries
 
+-- the names of a policy's labels
 abbrev pub label_names : Policy → List (List ℕ)
 label_names p = map (λ l. l.name) p.labels
 
+-- the labels of the policy have different names
 abbrev pub HasDifferentLabels : Policy → Type 0
 HasDifferentLabels p = AreDifferent (label_names p)
 
+-- one entry for each table, and one for each policy
 pub record HasOneEntryEach (u : User) : Type 0 where
   pub privileges : AreDifferent (map (λ g. g.table) u.privileges)
   pub held : AreDifferent (map (λ h. h.policy) u.held)
@@ -98,12 +110,15 @@ pub record HasDifferentNames (C : Cat) : Type 0 where
 
 -- ---- entries
 
+-- the holding isn't empty
 abbrev pub HoldsSomething : Holding → Type 0
 HoldsSomething h = is_empty_holding h ≡ false
 
+-- the entry gives a privilege
 abbrev pub GrantsSomething : Grant → Type 0
 GrantsSomething g = has_none g.privileges ≡ false
 
+-- no entry of the user is empty
 pub record HasNoEmptyEntry (u : User) : Type 0 where
   pub privileges : AllByRecursion GrantsSomething u.privileges
   pub held : AllByRecursion HoldsSomething u.held

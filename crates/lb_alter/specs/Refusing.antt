@@ -29,7 +29,7 @@ abbrev pub ◌>>=◌ : {A B : Type 0} → OrRefused A → (A → OrRefused B) �
 Ok x >>= f = f x
 Err r >>= f = Err r
 
--- a test: it refuses, or what stands in_tables it decides
+-- a test: it refuses, or what comes after it decides
 infixl 10 ◌>>◌
 abbrev pub ◌>>◌ : {A : Type 0} → Option Refusal → OrRefused A → OrRefused A
 None >> rest = rest
@@ -51,17 +51,30 @@ abbrev pub each_passes : {A : Type 0} → (A → Option Refusal) → List A → 
 each_passes test [] = None
 each_passes test (x ∷ xs) = earliest (test x ∷ each_passes test xs ∷ [])
 
+-- refused where there is one already
+abbrev pub exists_already : Option (List ℕ) → Option Refusal
+exists_already None = None
+exists_already (Some n) = Some (refusals.Exists n)
+
+-- refused where something uses it
+abbrev pub in_use : List ℕ → Option (List ℕ) → Option Refusal
+in_use n None = None
+in_use n (Some by) = Some (refusals.InUse n by)
+
 -- what is there of that name, else it is unknown
 abbrev pub found : {A : Type 0} → List ℕ → Option A → OrRefused A
 found n None = Err (refusals.Unknown n)
 found n (Some x) = Ok x
 
+-- the table of that name
 abbrev pub the_table : Cat → List ℕ → OrRefused Table
 the_table C n = found n (table_named C n)
 
+-- the policy of that name
 abbrev pub the_policy : Cat → List ℕ → OrRefused Policy
 the_policy C n = found n (policy_named C n)
 
+-- the label of that name
 abbrev pub the_label : Policy → List ℕ → OrRefused LabelRec
 the_label p n = found n (label_named p n)
 
@@ -74,15 +87,18 @@ owner C user n = do
   when (not (bytes_eq t.owner user)) (refusals.Privilege needed.Control n)
   Ok t
 
+-- the user is there and has SECADM authority
 abbrev pub has_secadm : Option User → Bool
 has_secadm None = false
 has_secadm (Some u) = u.secadm
 
+-- refused where the user has no SECADM authority
 abbrev pub secadm : Cat → List ℕ → Option Refusal
 secadm C user = when (not (has_secadm (user_named C user))) refusals.NotSecadm
 
 -- ---- what is made
 
+-- an accepted change: what it leaves, and the keys that it touches
 abbrev pub done : Cat → Tables → List Key → OrRefused Changed
 done C T touched = Ok (record { cat = C; tables = T; touched = touched; reply = replies.Done })
 
@@ -90,6 +106,7 @@ done C T touched = Ok (record { cat = C; tables = T; touched = touched; reply = 
 abbrev pub alters : Cat → Tables → Table → OrRefused Changed
 alters C T t = done (put_table t C) T (keys.Table t.name ∷ [])
 
+-- an accepted change of one policy's record
 abbrev pub alters_policy : Cat → Tables → Policy → OrRefused Changed
 alters_policy C T p = done (put_policy p C) T (keys.Policy p.name ∷ [])
 

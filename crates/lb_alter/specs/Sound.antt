@@ -1,5 +1,5 @@
 -- What every catalogue that stands keeps.
-use Rattle.std.specs.Prelude.{ℕ, ◌≤◌, length}
+use Rattle.std.specs.Prelude.{◌≤◌, length}
 use Rattle.std.specs.List.{AllByRecursion}
 use Rattle.lb_label.specs.Component.{IsComponent}
 use Rattle.lb_cat.specs.Catalog.{Cat, Policy, Component}

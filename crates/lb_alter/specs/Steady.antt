@@ -1,5 +1,5 @@
 -- What soundness asks of the rules of names and types: how a condition that keeps them fares when the catalogue changes.
-use Rattle.std.specs.Prelude.{ℕ, ◌≡◌, true, false, List, [], ◌∷◌, take, drop, length, slice_get, Option, None, Some, is_some}
+use Rattle.std.specs.Prelude.{ℕ, ◌≡◌, ◌≤◌, true, false, List, [], ◌∷◌, take, drop, length, slice_get, Option, None, Some, is_some}
 use Rattle.std.specs.List.{AllByRecursion, AllZip, list_any}
 use Rattle.lb_base.specs.declared.key.Key.{Key}
 use Rattle.lb_base.specs.declared.key.Ty.{Ty}
@@ -11,13 +11,13 @@ use Rattle.lb_cat.specs.declared.refusal.Refusal.{Refusal}
 use Rattle.lb_cat.specs.declared.refusal.Refusal.TheVariants as refusals
 use Rattle.lb_cat.specs.Catalog.{Cat, Table, Policy, label_named, table_named, policy_named, put_table, put_policy}
 use Rattle.lb_names.specs.Mentions.{Mention, Mentions, table, policy, label, in_cond, in_expr, tables_in, policies_in}
-use Rattle.lb_alter.specs.Stored.{Checks}
-use Rattle.lb_alter.specs.Refusing.{when}
-use Rattle.lb_alter.specs.ChangeTable.{is_label_type, is_label_column}
 use Rattle.lb_alter.specs.ChangeControl.{correlation_of}
+use Rattle.lb_alter.specs.ChangeTable.{is_label_type, is_label_column}
 use Rattle.lb_alter.specs.Deps.{deps_of}
 use Rattle.lb_alter.specs.Frame.{SameOn}
 use Rattle.lb_alter.specs.Named.{HasTable, HasPolicy, HasFoldedNames}
+use Rattle.lb_alter.specs.Refusing.{when}
+use Rattle.lb_alter.specs.Stored.{Checks}
 use Rattle.lb_alter.specs.Valid.{KeepsRules, KeepsMaskRules, IsValid, IsValidMask}
 
 -- what a stored condition depends on beside its own table
@@ -28,9 +28,10 @@ stored_deps C on ms = deps_of C (table on.table ∷ ms)
 abbrev pub IsSameColumn : ColumnRec → ColumnRec → Type 0
 IsSameColumn c d = (d.name ≡ c.name) × (d.ty ≡ c.ty)
 
--- the table has the same columns, secured or not, and may have some more that hold no label
+-- the table, which has a column, has the same columns, secured or not, and may have some more that hold no label
 pub record IsWider (t u : Table) : Type 0 where
   pub name : u.name ≡ t.name
+  pub some : 1 ≤ length t.columns
   pub more : List ColumnRec
   pub same : AllZip IsSameColumn t.columns (take (length t.columns) u.columns)
   pub rest : drop (length t.columns) u.columns ≡ more

@@ -35,9 +35,11 @@ pub record Stored : Type 0 where
   pub name : List ℕ
   pub mentions : Mentions
 
+-- a permission, by what its condition names
 abbrev pub stored_permission : PermissionRec → Stored
 stored_permission p = record { name = p.name; mentions = in_cond p.condition }
 
+-- a mask, by what its CASE names
 abbrev pub stored_mask : MaskRec → Stored
 stored_mask m = record { name = m.name; mentions = in_expr m.value }
 
@@ -45,9 +47,11 @@ stored_mask m = record { name = m.name; mentions = in_expr m.value }
 abbrev pub stored_in : Table → List Stored
 stored_in t = map stored_permission t.permissions ++ map stored_mask t.masks
 
+-- its name
 abbrev pub stored_name : Stored → List ℕ
 stored_name s = s.name
 
+-- what it names
 abbrev pub mentions_of : Stored → Mentions
 mentions_of s = s.mentions
 
@@ -55,6 +59,7 @@ mentions_of s = s.mentions
 abbrev pub mentioned_in : Table → Mentions
 mentioned_in t = flat_map mentions_of (stored_in t)
 
+-- it reads the table
 abbrev pub names_table : List ℕ → Stored → Bool
 names_table n s = list_any (is_table_mention n) s.mentions
 

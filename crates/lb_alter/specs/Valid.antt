@@ -9,8 +9,8 @@ use Rattle.lb_cat.specs.declared.catalog.ColumnRec.{ColumnRec}
 use Rattle.lb_cat.specs.declared.catalog.PermissionRec.{PermissionRec}
 use Rattle.lb_cat.specs.declared.catalog.MaskRec.{MaskRec}
 use Rattle.lb_cat.specs.Catalog.{Cat, Table}
-use Rattle.lb_alter.specs.Stored.{Checks}
 use Rattle.lb_alter.specs.ChangeTable.{is_label_type}
+use Rattle.lb_alter.specs.Stored.{Checks}
 
 -- a table as a stored condition calls it
 abbrev pub called : Table → List ℕ → Tab

@@ -16,12 +16,12 @@ use Rattle.lb_cat.specs.declared.catalog.PermissionRec.{PermissionRec}
 use Rattle.lb_cat.specs.declared.refusal.Refusal.{Refusal}
 use Rattle.lb_cat.specs.declared.refusal.Refusal.TheVariants as refusals
 use Rattle.lb_cat.specs.declared.reply.Reply.{Reply}
-use Rattle.lb_cat.specs.declared.reply.Reply.TheVariants as replies
 use Rattle.lb_cat.specs.Catalog.{Cat, Table, table_named, first_cat, put_table}
-use Rattle.lb_alter.specs.Stored.{Checks}
-use Rattle.lb_alter.specs.ChangeTable.{new_table}
 use Rattle.lb_alter.specs.Change.{change}
-use Rattle.lb_alter.specs.Worked.{Answers, admin, after_all, asks_teller, catalog, int, label, label_of, pay, plain, refused, table}
+use Rattle.lb_alter.specs.ChangeTable.{new_table}
+use Rattle.lb_alter.specs.Stored.{Checks}
+use Rattle.lb_alter.specs.Worked.{Answers, admin, after_all, catalog, int, label, plain, refused, table}
+use Rattle.lb_alter.specs.WorkedAnswers.{asks_teller, pay}
 
 -- rules that refuse every condition for a name, for a type, or not at all
 abbrev pub rules_by : Option Refusal → Option Refusal → Checks
@@ -48,9 +48,11 @@ zero_value = exprs.Atom (atoms.Int (pos 0))
 abbrev pub one : PermissionRec
 one = record { name = codes "ONE"; correlation = codes "CUST"; condition = asks_policy; enabled = false }
 
+-- the mask HIDE, on the second column
 abbrev pub hide : MaskRec
 hide = record { name = codes "HIDE"; column = 1; correlation = codes "CUST"; value = zero_value; enabled = true }
 
+-- TELLER, with the column PAY
 abbrev pub teller : Table
 teller = new_table admin (codes "TELLER") (pay None ∷ []) None
 
@@ -58,18 +60,23 @@ teller = new_table admin (codes "TELLER") (pay None ∷ []) None
 abbrev pub cust : Table
 cust = record (new_table admin (codes "CUST") (elements.Column (plain (codes "ID") int) ∷ pay None ∷ []) None) { permissions = one ∷ []; masks = hide ∷ [] }
 
+-- a catalogue of these two tables
 abbrev pub shop : Cat
 shop = put_table cust (put_table teller first_cat)
 
+-- CREATE PERMISSION
 abbrev pub permission : Bool → List ℕ → List ℕ → Cond → Switch → Change
 permission replace n on c switch = changes.CreatePermission (record { replace = replace; name = n; on = record { table = on; correlation = None }; condition = c; switch = switch })
 
+-- CREATE MASK, whose CASE is 0
 abbrev pub mask : Bool → List ℕ → List ℕ → List ℕ → Change
 mask replace n on column = changes.CreateMask (record { replace = replace; name = n; on = record { table = on; correlation = None }; column = column; value = zero_value; switch = switches.Enable })
 
+-- refused as unknown
 abbrev pub unknown : List ℕ → Reply
 unknown n = refused (refusals.Unknown n)
 
+-- refused as taken
 abbrev pub exists : List ℕ → Reply
 exists n = refused (refusals.Exists n)
 
@@ -105,6 +112,7 @@ pub record OtherKindIsUnknown (K : Checks) : Type 0 where
   pub switched : Answers shop K admin (changes.SwitchPermission (codes "HIDE") switches.Enable) (unknown (codes "HIDE"))
   pub dropped : Answers shop K admin (changes.DropMask (codes "ONE")) (unknown (codes "ONE"))
 
+-- which permissions of the table are enabled
 abbrev pub switches_of : Cat → List ℕ → Option (List Bool)
 switches_of C n = option_map (λ t. map (λ p. p.enabled) t.permissions) (table_named C n)
 
@@ -125,6 +133,7 @@ used K = after_all K (catalog K)
     ∷ table (codes "W") (pay (Some (codes "MHE")) ∷ []) (Some (codes "P"))
     ∷ [])
 
+-- what is used can't be dropped
 pub record AreInUse (K : Checks) : Type 0 where
   -- a role by a user, a policy by its first label, a label by a column
   pub role : Answers (used K) K admin (changes.DropRole (codes "R")) (refused (refusals.InUse (codes "R") (codes "ANN")))

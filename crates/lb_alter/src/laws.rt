@@ -1,12 +1,25 @@
 // Laws over the definitions. Each is the contract of a function that does nothing.
 ghost use Rattle.lb_alter.specs.Frame.{DepsStay, UntouchedStays};
-ghost use Rattle.lb_alter.specs.Laws.{CredentialsFit, FirstIsSound, FirstTablesFit, StaysSound, TablesStayFit};
+ghost use Rattle.lb_alter.specs.Laws.{
+  CredentialsFit,
+  FirstIsSound,
+  FirstTablesFit,
+  FitsFollow,
+  StaysSound,
+  TablesStayFit,
+};
 ghost use Rattle.lb_alter.specs.Steady.{IsSteady, plain_rules};
 ghost use Rattle.lb_alter.specs.Stored.{Checks};
 ghost use Rattle.lb_alter.specs.WorkedControls.{
-    AreInUse, CalledIsInUse, MasksAreRefused, OtherKindIsUnknown, PermissionsAreRefused, SourcesStandBetween, Switches,
+  AreInUse,
+  CalledIsInUse,
+  MasksAreRefused,
+  OtherKindIsUnknown,
+  PermissionsAreRefused,
+  SourcesStandBetween,
+  Switches,
 };
-ghost use Rattle.lb_alter.specs.Worked.{AllAreRefused, AllLeave, DropsTouchUsers, ReadsThrough};
+ghost use Rattle.lb_alter.specs.WorkedAnswers.{AllAreRefused, AllLeave, DropsTouchUsers, ReadsThrough};
 
 /// What some statements answer in a small catalogue.
 pub fn worked_changes()
@@ -65,4 +78,9 @@ pub fn first_tables_fit()
 /// Where the rows of all tables fit a sound catalogue, they fit it after each change.
 pub fn changes_keep_fits()
     ensures { (K : Checks) → TablesStayFit K }
+{}
+
+/// Rows and credentials that fit on what a statement depends on fit every sound catalogue with the same records there.
+pub fn fits_follow()
+    ensures { (K : Checks) → FitsFollow K }
 {}

@@ -4,6 +4,7 @@
 mod laws;
 
 pub use laws::{
-    changes_keep_fits, changes_stay_sound, credentials_fit, dependencies_stay, first_is_sound, first_tables_fit,
-    some_rules_are_steady, untouched_stays, worked_changes, worked_controls,
+    changes_keep_fits, changes_stay_sound, credentials_fit, dependencies_stay, first_is_sound,
+    first_tables_fit, fits_follow, some_rules_are_steady, untouched_stays, worked_changes,
+    worked_controls,
 };

@@ -1,5 +1,5 @@
 -- Privileges on tables: what a user was granted, and what a session may do.
-use Rattle.std.specs.Prelude.{ℕ, Bool, true, false, not, ◌||◌, List, find, fold, Option, None, Some, is_some, if◌then◌else◌}
+use Rattle.std.specs.Prelude.{ℕ, Bool, false, not, ◌||◌, List, find, fold, Option, None, Some, is_some, if◌then◌else◌}
 use Rattle.std.specs.Str.{bytes_eq}
 use Rattle.lb_stmt.specs.declared.change.Privilege.{Privilege}
 use Rattle.lb_stmt.specs.declared.change.Privilege.TheVariants as granted

@@ -1,6 +1,11 @@
 // Laws of the catalogue's definitions. Each is the contract of a function that does nothing.
 ghost use Rattle.lb_cat.specs.Stamps.{
-    ComponentsAreBare, Kept, PoliciesAreBare, RolesAreBare, TablesAreBare, UsersAreBare,
+  ComponentsAreBare,
+  Kept,
+  PoliciesAreBare,
+  RolesAreBare,
+  TablesAreBare,
+  UsersAreBare,
 };
 
 /// A record is looked up, put and dropped with its stamp as it is without.

@@ -9,6 +9,7 @@ pub record Stamped : Type 0 where
   pub version : Version
   pub stamp : ℕ
 
+-- one version with its stamp
 abbrev pub stamped_of : Standing → Stamped
 stamped_of s = record { version = arc_value s.version; stamp = s.stamp }
 
@@ -16,6 +17,7 @@ stamped_of s = record { version = arc_value s.version; stamp = s.stamp }
 abbrev pub stamped_in : List Standing → List Stamped
 stamped_in xs = map stamped_of xs
 
+-- the version without its stamp
 abbrev pub version_of : Stamped → Version
 version_of s = s.version
 

@@ -5,4 +5,4 @@ mod snap;
 mod version;
 
 pub use snap::{Snap, Standing, TABLE_LIMIT};
-pub use version::{TableVersion, CHUNK_LIMIT};
+pub use version::{CHUNK_LIMIT, TableVersion};

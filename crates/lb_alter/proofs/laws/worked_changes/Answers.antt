@@ -6,11 +6,11 @@ use Rattle.lb_cat.specs.Keys.{once}
 use Rattle.lb_cat.specs.Catalog.{drop_table, table_named, policy_named}
 use Rattle.lb_cat.specs.Privileges.{without_grant, has_grant_on}
 use Rattle.lb_names.specs.Mentions.{Mentions, tables_in, policies_in}
-use Rattle.lb_alter.specs.ChangeTable.{in_use, user_key}
+use Rattle.lb_alter.specs.ChangeTable.{user_key}
 use Rattle.lb_alter.specs.Deps.{policy_of_table, is_key_name, components_of}
-use Rattle.lb_alter.specs.Refusing.{settled, done, ◌>>◌}
+use Rattle.lb_alter.specs.Refusing.{in_use, settled, done, ◌>>◌}
 use Rattle.lb_alter.specs.Stored.{Checks, Stored, stored_name, names_table}
-use Rattle.lb_alter.specs.Worked.{bank, ReadsThrough}
+use Rattle.lb_alter.specs.WorkedAnswers.{bank, ReadsThrough}
 use Rattle.std.specs.Prelude.{ℕ, Option, option_map, find, filter, filter_map, map}
 use Rattle.std.specs.List.{flat_map}
 use Rattle.lb_base.specs.declared.key.Key.{Key}
@@ -45,7 +45,7 @@ drop_by : Checks → Option Stored → Reply
 drop_by K o = (settled (bank K) [] (in_use teller (option_map stored_name o)
     >> done (record (drop_table teller (bank K)) { users = map (without_grant teller) (bank K).users }) (without (is_version teller) []) (keys.Table teller ∷ keys.Rows teller ∷ map user_key (filter (has_grant_on teller) (bank K).users)))).reply
 
--- what a write depends on, by what stands in_tables its table
+-- what a write depends on, by what its table's permission names
 tables_by : Mentions → List (List ℕ)
 tables_by b = codes "CUST" ∷ tables_in b
 

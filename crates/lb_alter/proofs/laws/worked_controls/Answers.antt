@@ -1,21 +1,20 @@
-use Rattle.std.proofs.Common.{◌≡◌, refl, ap, ◌++◌, cond, false, ℕ, List, [], ◌∷◌, Option, Some, None, codes}
-use Rattle.std.specs.Prelude.{find, filter, map, option_map}
+use Rattle.std.proofs.Common.{refl, ap, ◌++◌, cond, false, ℕ, List, [], ◌∷◌, Some, None, codes}
+use Rattle.std.specs.Prelude.{filter, map, option_map}
 use Rattle.std.specs.List.{list_any}
 use Rattle.lb_base.specs.declared.key.Key.TheVariants as keys
 use Rattle.lb_cat.specs.declared.reply.Reply.{Reply}
-use Rattle.lb_cat.specs.declared.refusal.Refusal.{Refusal}
 use Rattle.lb_cat.specs.declared.refusal.Refusal.TheVariants as refusals
 use Rattle.lb_stmt.specs.declared.change.PermissionDef.{PermissionDef}
 use Rattle.lb_stmt.specs.declared.change.Switch.TheVariants as switches
 use Rattle.lb_cat.specs.Catalog.{Table, drop_policy}
 use Rattle.lb_cat.specs.Holdings.{has_holding_of, without_holding}
 use Rattle.lb_names.specs.Mentions.{Mentions, in_expr, is_policy_mention}
-use Rattle.lb_alter.specs.Stored.{Checks}
-use Rattle.lb_alter.specs.Refusing.{◌>>◌, settled, alters, done}
-use Rattle.lb_alter.specs.ChangeTable.{in_use, user_key}
 use Rattle.lb_alter.specs.ChangeControl.{source_refusal, new_permission, with_permission}
-use Rattle.lb_alter.specs.ChangeLabel.{table_name, first_label}
-use Rattle.lb_alter.specs.Worked.{asks_teller}
+use Rattle.lb_alter.specs.ChangePolicy.{table_name, first_label}
+use Rattle.lb_alter.specs.ChangeTable.{user_key}
+use Rattle.lb_alter.specs.Refusing.{◌>>◌, settled, alters, done, in_use}
+use Rattle.lb_alter.specs.Stored.{Checks}
+use Rattle.lb_alter.specs.WorkedAnswers.{asks_teller}
 use Rattle.lb_alter.specs.WorkedControls.{SourcesStandBetween, CalledIsInUse, calling, cust, rules_by, shop, teller, zero_value}
 use Rattle.lb_alter.proofs.WorkedMentions.{asks, calls}
 use Rattle.lb_alter.proofs.laws.worked_controls.Goals as goal
