@@ -1,15 +1,16 @@
 // Row permissions, column masks and labels, computed.
-ghost use Rattle.lb_worked.specs.Permitted.{TrueBeforeFault, FaultBeforeTrue, Disabled as PermittedDisabled, SeenBeforeJoined, NoPermission, NothingToCount};
+ghost use Rattle.lb_worked.specs.Permitted.{TrueBeforeFault, FaultBeforeTrue, DisabledSavesNone, FalseIsHidden, NoPermission, NothingToCount, SeenBeforeJoined};
 ghost use Rattle.lb_worked.specs.Masked.{AggregatesMasked, SortsUnmasked, FiltersUnmasked, DistinctRefused, DistinctAllowed, PerItem, FirstMask, NullRow};
 
 /// The enabled permissions of a row are tried in the order of creation, up to the first that is true or faults.
 pub fn permissions_are_tried_in_order()
     ensures true_before_fault { TrueBeforeFault }
     ensures fault_before_true { FaultBeforeTrue }
-    ensures disabled { PermittedDisabled }
-    ensures seen_before_joined { SeenBeforeJoined }
+    ensures disabled_saves_none { DisabledSavesNone }
+    ensures false_is_hidden { FalseIsHidden }
     ensures no_permission { NoPermission }
     ensures nothing_to_count { NothingToCount }
+    ensures seen_before_joined { SeenBeforeJoined }
 {}
 
 /// Masks stand in the outputs alone, and with GROUP BY and DISTINCT they may choose by the grouped columns alone.
