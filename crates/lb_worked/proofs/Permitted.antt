@@ -1,5 +1,5 @@
 -- The examples of specs/Permitted, computed: each test of a permission by itself, and then the rows.
-use Rattle.std.proofs.Common.{◌≡◌, refl, [], ◌∷◌, List, Bool, true, false, pos, Ok, Err}
+use Rattle.std.proofs.Common.{◌≡◌, refl, ◌∙◌, [], ◌∷◌, List, Bool, true, false, pos, Ok, Err}
 use Rattle.std.specs.Prelude.{codes, if◌then◌else◌}
 use Rattle.lb_base.specs.Arithmetic.{in_64_bits, sum_of, product_of}
 use Rattle.lb_base.specs.Evaluated.{Evaluated, ◌>>=◌, passing, any_passing}
@@ -12,11 +12,17 @@ use Rattle.lb_names.specs.Mentions.{in_query, in_expr, in_cond}
 use Rattle.lb_mean.specs.Meaning.{answers, means, says}
 use Rattle.lb_mean.specs.Setting.{Setting}
 use Rattle.lb_mean.specs.Uses.{uses_in, uses_in_cond, uses_in_query}
-use Rattle.lb_mean.specs.Visible.{unguarded, is_granted_by, is_visible}
+use Rattle.lb_base.specs.Truths.{is_true}
+use Rattle.lb_tree.specs.declared.query.Comparison.TheVariants as comparisons
+use Rattle.lb_tree.specs.declared.query.Cond.TheOpen as layers
+use Rattle.lb_mean.specs.Conditions.{cond_step}
+use Rattle.lb_mean.specs.Meant.{Says}
+use Rattle.lb_mean.specs.Visible.{unguarded, alone, is_granted_by}
+use Rattle.lb_worked.specs.Trees.{of, int, plus}
 use Rattle.lb_worked.specs.Orders.{r, one, two}
 use Rattle.lb_worked.specs.Tables.{guarded_by}
 use Rattle.lb_worked.specs.Permitted.{cat, rows, p1, p2, TrueBeforeFault, FaultBeforeTrue, DisabledSavesNone, FalseIsHidden, NoPermission, NothingToCount, SeenBeforeJoined}
-use Rattle.lb_worked.proofs.Computing.{computing}
+use Rattle.lb_worked.proofs.Computing.{computing, m_cond}
 
 abbrev W : List PermissionRec → Setting
 W ps = unguarded (cat ps) (cred (cat ps) (codes "ANN") []) rows (pos 0)
@@ -24,25 +30,38 @@ W ps = unguarded (cat ps) (cred (cat ps) (codes "ANN") []) rows (pos 0)
 abbrev Row : Type 0
 Row = List Value
 
-abbrev granted : List PermissionRec → Row → PermissionRec → Evaluated Bool
-granted ps row p = is_granted_by (W ps) (guarded_by ps r) row p
+-- in any setting P1 is true for the second row alone, and P2 overflows there
+module _ (S : Setting) (ps : List PermissionRec) where
+  abbrev granted : Row → PermissionRec → Evaluated Bool
+  granted row p = is_granted_by S (guarded_by ps r) row p
 
--- P1 is true for the second row alone, and P2 overflows there
-first_one : (ps : List PermissionRec) → granted ps one p1 ≡ Ok false
-unfolding says
-first_one ps = simp computing refl
+  -- the conditions opened by hand
+  abbrev of_row : Row → Says → Evaluated Bool
+  of_row row c = c.test (alone (codes "R") (guarded_by ps r) row) >>= λ x. Ok (is_true x)
 
-first_two : (ps : List PermissionRec) → granted ps two p1 ≡ Ok true
-unfolding says
-first_two ps = simp computing refl
+  p1_opened : says S p1.condition ≡ cond_step (layers.Cond-F.Compare comparisons.Equal (means S (of (codes "R") (codes "A"))) (means S (int 2)))
+  unfolding says means
+  p1_opened = m_cond S (layers.Cond-F.Compare comparisons.Equal (of (codes "R") (codes "A")) (int 2))
 
-second_one : (ps : List PermissionRec) → granted ps one p2 ≡ Ok true
-unfolding says in_64_bits sum_of
-second_one ps = simp computing refl
+  p2_opened : says S p2.condition ≡ cond_step (layers.Cond-F.Compare comparisons.Greater (means S (plus (of (codes "R") (codes "X")) (int 1))) (means S (int 0)))
+  unfolding says means
+  p2_opened = m_cond S (layers.Cond-F.Compare comparisons.Greater (plus (of (codes "R") (codes "X")) (int 1)) (int 0))
 
-second_two : (ps : List PermissionRec) → granted ps two p2 ≡ Err Overflow
-unfolding says in_64_bits sum_of
-second_two ps = simp computing refl
+  pub first_one : granted one p1 ≡ Ok false
+  unfolding means
+  first_one = (λ i. of_row one (p1_opened i)) ∙ simp computing refl
+
+  pub first_two : granted two p1 ≡ Ok true
+  unfolding means
+  first_two = (λ i. of_row two (p1_opened i)) ∙ simp computing refl
+
+  pub second_one : granted one p2 ≡ Ok true
+  unfolding means in_64_bits sum_of
+  second_one = (λ i. of_row one (p2_opened i)) ∙ simp computing refl
+
+  pub second_two : granted two p2 ≡ Err Overflow
+  unfolding means in_64_bits sum_of
+  second_two = (λ i. of_row two (p2_opened i)) ∙ simp computing refl
 
 abbrev either : Evaluated Bool → Evaluated Bool → Evaluated Bool
 either a b = a >>= λ x. if x then Ok true else (b >>= λ y. if y then Ok true else Ok false)
@@ -55,16 +74,16 @@ abbrev both : Evaluated Bool → Evaluated Bool → Evaluated (List Row)
 both a b = a >>= λ x. (b >>= λ y. Ok (if y then two ∷ [] else [])) >>= λ rest. Ok (if x then one ∷ rest else rest)
 
 pub true_before_fault : TrueBeforeFault
-true_before_fault = λ i. both (either (first_one (p1 ∷ p2 ∷ []) i) (second_one (p1 ∷ p2 ∷ []) i)) (either (first_two (p1 ∷ p2 ∷ []) i) (granted (p1 ∷ p2 ∷ []) two p2))
+true_before_fault = λ i. both (either (first_one (W (p1 ∷ p2 ∷ [])) (p1 ∷ p2 ∷ []) i) (second_one (W (p1 ∷ p2 ∷ [])) (p1 ∷ p2 ∷ []) i)) (either (first_two (W (p1 ∷ p2 ∷ [])) (p1 ∷ p2 ∷ []) i) (granted (W (p1 ∷ p2 ∷ [])) (p1 ∷ p2 ∷ []) two p2))
 
 pub fault_before_true : FaultBeforeTrue
-fault_before_true = λ i. both (either (second_one (p2 ∷ p1 ∷ []) i) (granted (p2 ∷ p1 ∷ []) one p1)) (either (second_two (p2 ∷ p1 ∷ []) i) (granted (p2 ∷ p1 ∷ []) two p1))
+fault_before_true = λ i. both (either (second_one (W (p2 ∷ p1 ∷ [])) (p2 ∷ p1 ∷ []) i) (granted (W (p2 ∷ p1 ∷ [])) (p2 ∷ p1 ∷ []) one p1)) (either (second_two (W (p2 ∷ p1 ∷ [])) (p2 ∷ p1 ∷ []) i) (granted (W (p2 ∷ p1 ∷ [])) (p2 ∷ p1 ∷ []) two p1))
 
 pub disabled_saves_none : DisabledSavesNone
-disabled_saves_none = λ i. both (only (second_one (record p1 { enabled = false } ∷ p2 ∷ []) i)) (only (second_two (record p1 { enabled = false } ∷ p2 ∷ []) i))
+disabled_saves_none = λ i. both (only (second_one (W (record p1 { enabled = false } ∷ p2 ∷ [])) (record p1 { enabled = false } ∷ p2 ∷ []) i)) (only (second_two (W (record p1 { enabled = false } ∷ p2 ∷ [])) (record p1 { enabled = false } ∷ p2 ∷ []) i))
 
 pub false_is_hidden : FalseIsHidden
-false_is_hidden = λ i. both (only (first_one (p1 ∷ []) i)) (only (first_two (p1 ∷ []) i))
+false_is_hidden = λ i. both (only (first_one (W (p1 ∷ [])) (p1 ∷ []) i)) (only (first_two (W (p1 ∷ [])) (p1 ∷ []) i))
 
 pub no_permission : NoPermission
 unfolding answers means says uses_in uses_in_cond uses_in_query in_query in_expr in_cond in_64_bits sum_of product_of
