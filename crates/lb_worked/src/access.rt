@@ -1,6 +1,7 @@
 // Row permissions, column masks and labels, computed.
 ghost use Rattle.lb_worked.specs.Permitted.{TrueBeforeFault, FaultBeforeTrue, DisabledSavesNone, FalseIsHidden, NoPermission, NothingToCount, SeenBeforeJoined};
 ghost use Rattle.lb_worked.specs.Masked.{AggregatesMasked, SortsUnmasked, FiltersUnmasked, DistinctRefused, DistinctAllowed, PerItem, FirstMask, NullRow};
+ghost use Rattle.lb_worked.specs.Labelled.{WithLabel, WithoutLabel, WithExemption, WholeText, ReadableText, SecuredColumn, UnsecuredColumn};
 
 /// The enabled permissions of a row are tried in the order of creation, up to the first that is true or faults.
 pub fn permissions_are_tried_in_order()
@@ -23,4 +24,15 @@ pub fn masks_come_last()
     ensures per_item { PerItem }
     ensures first_mask { FirstMask }
     ensures null_row { NullRow }
+{}
+
+/// Labels are tested row by row, component by component.
+pub fn labels_decide_on_rows()
+    ensures with_label { WithLabel }
+    ensures without_label { WithoutLabel }
+    ensures with_exemption { WithExemption }
+    ensures whole_text { WholeText }
+    ensures readable_text { ReadableText }
+    ensures secured_column { SecuredColumn }
+    ensures unsecured_column { UnsecuredColumn }
 {}
