@@ -3,3 +3,6 @@ mod Sure
 mod Orders
 mod Permitted
 mod Masked
+mod Labelled
+mod Written
+mod Stored

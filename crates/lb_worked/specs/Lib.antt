@@ -1,6 +1,11 @@
 pub mod Trees
 pub mod Tables
+pub mod Changes
+pub mod Policy
 pub mod Sure
 pub mod Orders
 pub mod Permitted
 pub mod Masked
+pub mod Labelled
+pub mod Written
+pub mod Stored

@@ -1,5 +1,5 @@
 -- EMP (NAME, SAL, BAND, D) with a mask M2 on NAME, which shows names of band 1 alone, and ONE (A): column masks.
-use Rattle.std.specs.Prelude.{ℕ, ◌≡◌, List, [], ◌∷◌, Some, None, codes}
+use Rattle.std.specs.Prelude.{ℕ, ◌≡◌, List, [], ◌∷◌, Some, None, codes, Ok}
 use Rattle.lb_base.specs.declared.key.Ty.TheVariants as types
 use Rattle.lb_base.specs.declared.value.Value.{Value}
 use Rattle.lb_base.specs.declared.value.Value.TheVariants as values
@@ -14,7 +14,7 @@ use Rattle.lb_cat.specs.declared.reply.Reply.TheVariants as replies
 use Rattle.lb_cat.specs.Catalog.{Cat, Table}
 use Rattle.lb_rows.specs.Tables.{Tables}
 use Rattle.lb_worked.specs.Trees.{bare, qualified, of, col, int, text, case, aggregate, count_rows, equal, item, tab, named, from, joined, left_join, select, select_distinct, select_groups, asked, up, down, ordered}
-use Rattle.lb_worked.specs.Tables.{column, plain, masked_by, mask, holding, number, word, with_tables, answered}
+use Rattle.lb_worked.specs.Tables.{column, plain, masked_by, mask, holding, number, word, with_tables, answered, given_rows}
 
 abbrev pub emp : Table
 emp = plain (codes "EMP") (column (codes "NAME") (types.Text 20) ∷ column (codes "SAL") types.Int ∷ column (codes "BAND") types.Int ∷ column (codes "D") types.Int ∷ [])
@@ -81,6 +81,6 @@ FirstMask = reply (asked (select_groups (item (of (codes "E1") (codes "NAME")) �
 
 -- SELECT ONE.A, E.NAME FROM ONE LEFT JOIN EMP AS E ON ONE.A = E.NAME: in the row of nulls the CASE decides
 abbrev pub NullRow : Type 0
-NullRow = reply (asked (select (item (of (codes "ONE") (codes "A")) ∷ item (of (codes "E") (codes "NAME")) ∷ [])
+NullRow = given_rows cat rows (codes "CARL") (asked (select (item (of (codes "ONE") (codes "A")) ∷ item (of (codes "E") (codes "NAME")) ∷ [])
     (joined (tab (codes "ONE")) (left_join (named (codes "EMP") (codes "E")) (equal (of (codes "ONE") (codes "A")) (of (codes "E") (codes "NAME"))) ∷ []) ∷ []) None))
-    ≡ replies.Rows ((word (codes "ZZ") ∷ word (codes "HIDDEN") ∷ []) ∷ [])
+    ≡ Ok ((word (codes "ZZ") ∷ word (codes "HIDDEN") ∷ []) ∷ [])

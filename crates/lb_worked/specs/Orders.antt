@@ -1,6 +1,8 @@
 -- R (A BIGINT, X BIGINT) with the rows 1, 1 and 2, 9223372036854775807: the order of work, and what stays unevaluated.
-use Rattle.std.specs.Prelude.{ℕ, ◌≡◌, List, [], ◌∷◌, Some, None, codes}
+use Rattle.std.specs.Prelude.{ℕ, ◌≡◌, List, [], ◌∷◌, Some, None, codes, Ok, Err}
 use Rattle.lb_base.specs.declared.key.Ty.TheVariants as types
+use Rattle.lb_base.specs.Evaluated.{Evaluated}
+use Rattle.lb_base.specs.declared.fault.Fault.TheVariants.{Overflow, ManyRows}
 use Rattle.lb_base.specs.declared.value.Value.{Value}
 use Rattle.lb_base.specs.declared.value.Value.TheVariants as values
 use Rattle.lb_tree.specs.declared.query.Cond.{Cond}
@@ -14,7 +16,7 @@ use Rattle.lb_cat.specs.declared.reply.Reply.TheVariants as replies
 use Rattle.lb_cat.specs.Catalog.{Table}
 use Rattle.lb_rows.specs.Tables.{Tables}
 use Rattle.lb_worked.specs.Trees.{col, of, int, plus, coalesce, equal, in_list, between, exists, equal_query, item, tab, named, from, joined, left_join, select, select_distinct, asked, up, down, ordered, first_of}
-use Rattle.lb_worked.specs.Tables.{column, plain, holding, number, greatest, with_tables, answered}
+use Rattle.lb_worked.specs.Tables.{column, plain, holding, number, greatest, with_tables, answered, given_rows}
 
 abbrev pub r : Table
 r = plain (codes "R") (column (codes "A") types.Int ∷ column (codes "X") types.Int ∷ [])
@@ -40,6 +42,10 @@ x = col (codes "X")
 -- X + 1, which overflows in the second row
 abbrev pub more : Expr
 more = plus x (int 1)
+
+-- what a query gives
+abbrev pub gives : Select → Evaluated (List (List Value))
+gives s = given_rows (with_tables (r ∷ [])) rows (codes "ANN") s
 
 -- SELECT e FROM R WHERE ..
 abbrev pub all : Expr → Query
@@ -78,11 +84,11 @@ CoalesceStops = reply (asked (all (coalesce a more))) ≡ replies.Rows ((number 
 
 -- SELECT A FROM R WHERE A = (SELECT X + 1 FROM R): all outputs come before the count of rows
 abbrev pub ScalarEvaluatesAll : Type 0
-ScalarEvaluatesAll = reply (asked (those a (equal_query a (all more)))) ≡ replies.Refused refusals.Overflow
+ScalarEvaluatesAll = gives (asked (those a (equal_query a (all more)))) ≡ Err Overflow
 
 -- SELECT A FROM R WHERE A = (SELECT X FROM R)
 abbrev pub ScalarHasOneRow : Type 0
-ScalarHasOneRow = reply (asked (those a (equal_query a (all x)))) ≡ replies.Refused refusals.ManyRows
+ScalarHasOneRow = gives (asked (those a (equal_query a (all x)))) ≡ Err ManyRows
 
 -- SELECT A FROM R WHERE EXISTS (SELECT X + 1 FROM R): EXISTS evaluates no outputs
 abbrev pub ExistsHasNoOutputs : Type 0
@@ -90,6 +96,6 @@ ExistsHasNoOutputs = reply (asked (those a (exists (all more)))) ≡ replies.Row
 
 -- SELECT R.A, S.X FROM R LEFT JOIN R AS S ON R.X = S.A: a row without match goes with nulls
 abbrev pub LeftJoinNulls : Type 0
-LeftJoinNulls = reply (asked (select (item (of (codes "R") (codes "A")) ∷ item (of (codes "S") (codes "X")) ∷ [])
+LeftJoinNulls = gives (asked (select (item (of (codes "R") (codes "A")) ∷ item (of (codes "S") (codes "X")) ∷ [])
     (joined (tab (codes "R")) (left_join (named (codes "R") (codes "S")) (equal (of (codes "R") (codes "X")) (of (codes "S") (codes "A"))) ∷ []) ∷ []) None))
-    ≡ replies.Rows ((number 1 ∷ number 1 ∷ []) ∷ (number 2 ∷ values.Null ∷ []) ∷ [])
+    ≡ Ok ((number 1 ∷ number 1 ∷ []) ∷ (number 2 ∷ values.Null ∷ []) ∷ [])

@@ -2,6 +2,7 @@
 use Rattle.std.specs.Prelude.{ℕ, Bool, false, true, List, [], ◌∷◌, Option, Some, None, pos, codes, ℤ}
 use Rattle.lb_base.specs.declared.key.Ty.{Ty}
 use Rattle.lb_base.specs.declared.key.Ty.TheVariants as types
+use Rattle.lb_base.specs.Evaluated.{Evaluated}
 use Rattle.lb_base.specs.declared.value.Value.{Value}
 use Rattle.lb_base.specs.declared.value.Value.TheVariants as values
 use Rattle.lb_tree.specs.declared.query.Cond.{Cond}
@@ -18,6 +19,8 @@ use Rattle.lb_cat.specs.Catalog.{Cat, Table, first_cat}
 use Rattle.lb_cat.specs.Credentials.{cred}
 use Rattle.lb_rows.specs.Tables.{Tables, Version}
 use Rattle.lb_mean.specs.Answer.{Checks}
+use Rattle.lb_mean.specs.Output.{rows_told}
+use Rattle.lb_mean.specs.Visible.{guarded}
 use Rattle.lb_answer.specs.Answer.{Answered, answer}
 
 -- ---- tables
@@ -76,3 +79,7 @@ with_tables ts = record first_cat { tables = ts }
 -- what a statement of a user without groups is answered
 abbrev pub answered : Cat → Tables → List ℕ → Stmt → Answered
 answered C T user s = answer no_checks C (cred C user []) T (pos 0) s
+
+-- what a query of a user without groups gives, where it isn't refused before
+abbrev pub given_rows : Cat → Tables → List ℕ → Select → Evaluated (List (List Value))
+given_rows C T user s = rows_told (guarded C (cred C user []) T (pos 0)) s

@@ -1,0 +1,44 @@
+-- Short words for writes.
+use Rattle.std.specs.Prelude.{ℕ, List, [], ◌∷◌, Option, Some, None}
+use Rattle.lb_base.specs.declared.value.Value.{Value}
+use Rattle.lb_tree.specs.declared.query.Cond.{Cond}
+use Rattle.lb_tree.specs.declared.query.Expr.{Expr}
+use Rattle.lb_tree.specs.declared.query.Select.{Select}
+use Rattle.lb_stmt.specs.declared.write.InsertSource.TheVariants as sources
+use Rattle.lb_stmt.specs.declared.write.Stmt.{Stmt}
+use Rattle.lb_stmt.specs.declared.write.Stmt.TheVariants as stmts
+use Rattle.lb_cat.specs.declared.refusal.Refusal.{Refusal}
+use Rattle.lb_cat.specs.declared.reply.Reply.TheVariants as replies
+use Rattle.lb_cat.specs.declared.reply.Verb.{Verb}
+use Rattle.lb_cat.specs.Catalog.{Table}
+use Rattle.lb_answer.specs.Answer.{Answered}
+use Rattle.lb_worked.specs.Trees.{tab}
+use Rattle.lb_worked.specs.Tables.{holding}
+
+-- INSERT INTO n VALUES rows
+abbrev pub insert : List ℕ → List (List Expr) → Stmt
+insert n rows = stmts.Insert (record { table = n; columns = None; source = sources.Rows rows })
+
+-- INSERT INTO n (columns) VALUES (row)
+abbrev pub insert_into : List ℕ → List (List ℕ) → List Expr → Stmt
+insert_into n columns row = stmts.Insert (record { table = n; columns = Some columns; source = sources.Rows (row ∷ []) })
+
+-- INSERT INTO n query
+abbrev pub insert_query : List ℕ → Select → Stmt
+insert_query n s = stmts.Insert (record { table = n; columns = None; source = sources.Query s })
+
+-- UPDATE n SET column = e WHERE c
+abbrev pub update : List ℕ → List ℕ → Expr → Option Cond → Stmt
+update n column e c = stmts.Update (record { target = tab n; assignments = record { column = column; value = e } ∷ []; filter = c })
+
+-- DELETE FROM n WHERE c
+abbrev pub delete : List ℕ → Cond → Stmt
+delete n c = stmts.Delete (record { target = tab n; filter = Some c })
+
+-- so many rows were written, and these rows are left
+abbrev pub wrote : Verb → ℕ → Table → List (List Value) → Answered
+wrote verb n t rows = record { reply = replies.Wrote verb n; table = Some (holding t rows) }
+
+-- nothing was written
+abbrev pub refused : Refusal → Answered
+refused r = record { reply = replies.Refused r; table = None }
