@@ -14,15 +14,14 @@ use Rattle.lb_alter.specs.Deps.{deps}
 use Rattle.lb_alter.specs.Fits.{CredFits, TablesFit}
 use Rattle.lb_alter.specs.Frame.{SameRecord, SameOn}
 use Rattle.lb_alter.proofs.SoundUsers.{deps_all}
-use Rattle.lb_alter.proofs.Steady.{deps_stay}
-use Rattle.lb_journal.specs.Rules.{answered_to}
+use Rattle.lb_journal.specs.Rules.{stored_rules}
+use Rattle.lb_alter.proofs.Following.{fits_follow}
 use Rattle.lb_journal.specs.State.{State}
 use Rattle.lb_journal.specs.Replay.{Runs, Replay}
 use Rattle.lb_journal.specs.Laws.{is_user_key, SameAt}
 use Rattle.lb_journal.specs.Engine.{Meaning, Condition, RightFor, RightGives}
 use Rattle.lb_journal.specs.Lasting.{SameStamps, RightLasts, AnswerStays}
 use Rattle.lb_journal.proofs.Stamps.{same_record}
-use Rattle.lb_journal.proofs.FitsBack.{creds_back, tables_back}
 
 no_users : (C : Cat) (s : Stmt) → AllByRecursion (λ (k : Key). is_user_key k ≡ false) (deps C s)
 no_users C s = deps_all (λ k. is_user_key k ≡ false) (λ n. refl) (λ n. refl) (λ n. refl) C (in_stmt s)
@@ -33,13 +32,11 @@ same_records S T (k ∷ ks) f u e = ((f k u.0 e.0).0, same_records S T ks f u.1 
 
 pub right_lasts : {P : Type 0} (means : Meaning P) (takes : Condition P) → AnswerStays → RightLasts means takes
 unfolding RightFor
-right_lasts means takes stays p s J K S T replay sound runs stamps right c U day creds tables is_day =
+right_lasts means takes stays p s J K S T replay sound sound_then runs stamps right c U day creds tables is_day =
     let same : SameOn (deps S.cat s) S.cat T.cat = same_records S T (deps S.cat s) (λ k u e. same_record J K S T k replay runs u e) (no_users S.cat s) stamps in
-    let keys : deps T.cat s ≡ deps S.cat s = deps_stay S.cat T.cat s same in
-    let creds_S : CredFits (deps S.cat s) S.cat c = creds_back S.cat T.cat c (deps S.cat s) same (subst (λ (ks : List Key). CredFits ks T.cat c) keys creds) in
-    let tables_S : TablesFit (deps S.cat s) S.cat U = tables_back S.cat T.cat s sound.belonging same U (subst (λ (ks : List Key). TablesFit ks T.cat U) keys tables) in
-    let r = right c U day creds_S tables_S is_day in
-    (r.0, r.1 ∙ stays S.cat T.cat c U day s same)
+    let moved = fits_follow stored_rules S.cat T.cat s sound same in
+    let r = right c U day (moved.credentials c creds) (moved.rows U tables) is_day in
+    (r.0, r.1 ∙ stays S.cat T.cat c U day s sound.folded sound_then.folded same)
 
 pub right_gives : {P : Type 0} (means : Meaning P) (takes : Condition P) → RightGives means takes
 unfolding RightFor

@@ -2,6 +2,5 @@ pub mod One
 pub mod Roots
 pub mod Stamps
 pub mod There
-pub mod FitsBack
 pub mod Lasting
 pub mod Agreeing
