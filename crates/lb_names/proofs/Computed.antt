@@ -83,15 +83,15 @@ too_many_values = simp (expr_atom typing (steps small), expr_sum typing (steps s
 
 pub too_many_outputs : types_refused small e.too_many_outputs ≡ Some (Types 0)
 unfolding says means answers same compare_typed kind_of_two kind_with_all kind_of_arm kind_of_results case_kind apply_kind
-too_many_outputs = simp (out-roll-Query, outs-Atom, outs-Case, outs-Apply, outs-Sum, outs-Value, outs-AllOf, outs-Compare, expr_atom typing (steps small), expr_sum typing (steps small), item_value typing (steps small), query_roll typing (steps small), chain_roll typing (steps small), signed_roll typing (steps small), chain_roll marked mark_steps) refl
+too_many_outputs = simp (out-roll-Query, outs-Atom, outs-Case, outs-Apply, outs-Sum, outs-Value, outs-AllOf, outs-Compare, expr_atom typing (steps small), expr_sum typing (steps small), item_value typing (steps small), query_roll typing (steps small), chain_roll typing (steps small), signed_roll typing (steps small), chain_roll marked mark_steps) (simp (out-roll-Query, outs-Atom, outs-Case, outs-Apply, outs-Sum, outs-Value, outs-AllOf, outs-Compare, expr_atom typing (steps small), expr_sum typing (steps small), item_value typing (steps small), query_roll typing (steps small), chain_roll typing (steps small), signed_roll typing (steps small), chain_roll marked mark_steps) (simp (out-roll-Query, outs-Atom, outs-Case, outs-Apply, outs-Sum, outs-Value, outs-AllOf, outs-Compare, expr_atom typing (steps small), expr_sum typing (steps small), item_value typing (steps small), query_roll typing (steps small), chain_roll typing (steps small), signed_roll typing (steps small), chain_roll marked mark_steps) refl))
 
 pub label_key : types_refused small e.label_key ≡ Some (Types 3)
 unfolding says means answers same compare_typed kind_of_two kind_with_all kind_of_arm kind_of_results case_kind apply_kind
-label_key = simp (out-roll-Query, outs-Atom, outs-Case, outs-Apply, outs-Sum, outs-Value, outs-AllOf, outs-Compare, expr_atom typing (steps small), item_value typing (steps small), item_allof typing (steps small), query_roll typing (steps small), chain_roll typing (steps small), chain_roll marked mark_steps) refl
+label_key = simp (out-roll-Query, outs-Atom, outs-Case, outs-Apply, outs-Sum, outs-Value, outs-AllOf, outs-Compare, expr_atom typing (steps small), item_value typing (steps small), item_allof typing (steps small), query_roll typing (steps small), chain_roll typing (steps small), chain_roll marked mark_steps) (simp (out-roll-Query, outs-Atom, outs-Case, outs-Apply, outs-Sum, outs-Value, outs-AllOf, outs-Compare, expr_atom typing (steps small), item_value typing (steps small), item_allof typing (steps small), query_roll typing (steps small), chain_roll typing (steps small), chain_roll marked mark_steps) (simp (out-roll-Query, outs-Atom, outs-Case, outs-Apply, outs-Sum, outs-Value, outs-AllOf, outs-Compare, expr_atom typing (steps small), item_value typing (steps small), item_allof typing (steps small), query_roll typing (steps small), chain_roll typing (steps small), chain_roll marked mark_steps) refl))
 
 pub distinct_keys : types_refused small e.distinct_keys ≡ Some (Types 13)
 unfolding says means answers same compare_typed kind_of_two kind_with_all kind_of_arm kind_of_results case_kind apply_kind
-distinct_keys = simp (outs-Atom, outs-Case, outs-Apply, outs-Sum, outs-Value, outs-AllOf, outs-Compare, cond_compare typing (steps small), expr_atom typing (steps small), expr_case typing (steps small), expr_apply typing (steps small), item_value typing (steps small), item_allof typing (steps small), query_roll typing (steps small), chain_roll typing (steps small), arm_roll typing (steps small), chain_roll marked mark_steps) refl
+distinct_keys = simp (outs-Atom, outs-Case, outs-Apply, outs-Sum, outs-Value, outs-AllOf, outs-Compare, cond_compare typing (steps small), expr_atom typing (steps small), expr_case typing (steps small), expr_apply typing (steps small), item_value typing (steps small), item_allof typing (steps small), query_roll typing (steps small), chain_roll typing (steps small), arm_roll typing (steps small), chain_roll marked mark_steps) (simp (outs-Atom, outs-Case, outs-Apply, outs-Sum, outs-Value, outs-AllOf, outs-Compare, cond_compare typing (steps small), expr_atom typing (steps small), expr_case typing (steps small), expr_apply typing (steps small), item_value typing (steps small), item_allof typing (steps small), query_roll typing (steps small), chain_roll typing (steps small), arm_roll typing (steps small), chain_roll marked mark_steps) (simp (outs-Atom, outs-Case, outs-Apply, outs-Sum, outs-Value, outs-AllOf, outs-Compare, cond_compare typing (steps small), expr_atom typing (steps small), expr_case typing (steps small), expr_apply typing (steps small), item_value typing (steps small), item_allof typing (steps small), query_roll typing (steps small), chain_roll typing (steps small), arm_roll typing (steps small), chain_roll marked mark_steps) refl))
 
 pub stored_star : permission_types_refused small (table k) e.stored_star ≡ Some (Types 3)
 unfolding says means answers same compare_typed kind_of_two kind_with_all kind_of_arm kind_of_results case_kind apply_kind

@@ -11,4 +11,7 @@ pub mod AlikeLists
 pub mod AlikeSteps
 pub mod OneType
 pub mod TypesFrame
+pub mod Kept
+pub mod KeptForms
+pub mod There
 pub mod Computed

@@ -2,7 +2,7 @@
 ghost use Rattle.std.specs.Prelude.{◌≡◌, Some, None, [], ◌∷◌, true};
 ghost use Rattle.lb_names.specs.declared.refused.Refused.TheVariants.{BadLabel, Exists, Types, Unknown};
 ghost use Rattle.lb_names.specs.Examples as e;
-ghost use Rattle.lb_names.specs.Laws.{FormsHaveAFrame, MentionsAreMarked, NamesHaveAFrame, TypesHaveAFrame};
+ghost use Rattle.lb_names.specs.Laws.{FormsHaveAFrame, FormsKeepMentions, MentionsAreMarked, MentionsAreThere, NamesHaveAFrame, TypesHaveAFrame};
 ghost use Rattle.lb_names.specs.Scopes.{Catalogue};
 ghost use Rattle.lb_names.specs.Small.{a, b, k, small, table, w, x};
 ghost use Rattle.lb_names.specs.StatementMarks.{marks_of};
@@ -27,6 +27,16 @@ pub fn types_have_a_frame()
 /// The qualified form of a permission or a mask depends on the catalogue by what is mentioned alone.
 pub fn forms_have_a_frame()
     ensures { (C D : Catalogue) → FormsHaveAFrame C D }
+{}
+
+/// The qualified form of a permission or a mask mentions what is mentioned as it is written.
+pub fn forms_keep_mentions()
+    ensures { (C : Catalogue) → FormsKeepMentions C }
+{}
+
+/// Where the names are not refused, the tables, policies and labels that are mentioned are there.
+pub fn mentions_are_there()
+    ensures { (C : Catalogue) → MentionsAreThere C }
 {}
 
 /// Names and types of statements, permissions and masks over a small catalogue, a condition that is qualified, and the columns
