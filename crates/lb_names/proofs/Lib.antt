@@ -14,4 +14,6 @@ pub mod TypesFrame
 pub mod Kept
 pub mod KeptForms
 pub mod There
+pub mod FoundColumns
+pub mod QualifiedForms
 pub mod Computed

@@ -19,7 +19,7 @@ use Rattle.lb_names.specs.Statements.{target_columns_refused, names_refused, per
 use Rattle.lb_names.specs.Agreeing.{IsThere, AreThere}
 use Rattle.lb_names.proofs.Mentioning.{of_cond, of_expr, of_stmt}
 
-neither : {A : Type 0} (a b : Option A) → or_else a b ≡ None → (a ≡ None) × (b ≡ None)
+pub neither : {A : Type 0} (a b : Option A) → or_else a b ≡ None → (a ≡ None) × (b ≡ None)
 neither None b h = (refl, h)
 neither (Some x) b h = absurd cc
 

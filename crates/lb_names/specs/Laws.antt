@@ -1,5 +1,5 @@
 -- What is proved of these definitions.
-use Rattle.std.specs.Prelude.{◌≡◌, ◌∷◌, None}
+use Rattle.std.specs.Prelude.{◌≡◌, true, ◌∷◌, None}
 use Rattle.lb_tree.specs.declared.query.Tab.{Tab}
 use Rattle.lb_tree.specs.declared.query.Cond.{Cond}
 use Rattle.lb_tree.specs.declared.query.Expr.{Expr}
@@ -11,6 +11,7 @@ use Rattle.lb_names.specs.StatementMarks.{marks_of}
 use Rattle.lb_names.specs.Mentions.{table, in_cond, in_expr, in_query, in_stmt, mentions}
 use Rattle.lb_names.specs.Scopes.{Catalogue}
 use Rattle.lb_names.specs.Statements.{names_refused, types_refused, permission_names_refused, permission_types_refused, permission_qualified, mask_names_refused, mask_types_refused, mask_qualified}
+use Rattle.lb_names.specs.Qualified.{are_qualified, are_qualified_in}
 use Rattle.lb_names.specs.Agreeing.{AgreeOn, AreThere}
 
 -- what is mentioned is what the marks mention, in their order, wherever a part stands
@@ -47,3 +48,8 @@ pub record MentionsAreThere (C : Catalogue) : Type 0 where
   pub stmt : (s : Stmt) → names_refused C s ≡ None → AreThere C (in_stmt s)
   pub permission : (tab : Tab) (c : Cond) → permission_names_refused C tab c ≡ None → AreThere C (in_cond c)
   pub mask : (tab : Tab) (e : Expr) → mask_names_refused C tab e ≡ None → AreThere C (in_expr e)
+
+-- each column of the qualified form has a correlation name, where the names are not refused
+pub record FormsAreQualified (C : Catalogue) : Type 0 where
+  pub permission : (tab : Tab) (c : Cond) → permission_names_refused C tab c ≡ None → are_qualified (permission_qualified C tab c) ≡ true
+  pub mask : (tab : Tab) (e : Expr) → mask_names_refused C tab e ≡ None → are_qualified_in (mask_qualified C tab e) ≡ true
