@@ -1,5 +1,8 @@
 -- The examples, computed.
-use Rattle.std.proofs.Common.{◌≡◌, refl, ap, ◌∙◌, Some, None, Option, [], ◌∷◌, Bool, true, false, List, Ok, Err}
+use Rattle.std.specs.Prelude.{pos}
+use Rattle.lb_tree.specs.declared.query.Atom.TheVariants as atoms
+use Rattle.lb_tree.specs.declared.query.Function.TheVariants as functions
+use Rattle.std.proofs.Common.{◌≡◌, refl, ap, ◌∙◌, ◌||◌, Some, None, Option, [], ◌∷◌, Bool, true, false, List, Ok, Err}
 use Rattle.std.specs.List.{list_any}
 use Rattle.lb_tree.specs.declared.query.Select.{Select}
 use Rattle.lb_tree.specs.declared.query.Cond.TheViews.{out-Query}
@@ -30,7 +33,7 @@ use Rattle.lb_names.specs.Same.{same, liking, like_steps}
 use Rattle.lb_names.specs.Qualify.{qualifying, qualify_steps, qualified_cond}
 use Rattle.lb_names.specs.Used.{used_items}
 use Rattle.lb_names.specs.Statements.{broken, names_refused, types_refused, permission_names_refused, permission_types_refused, mask_types_refused, permission_qualified}
-use Rattle.lb_names.specs.Small.{a, b, k, p, w, x, table, small}
+use Rattle.lb_names.specs.Small.{a, b, k, p, w, x, one, int, col, table, small}
 use Rattle.lb_names.specs.Examples as e
 use Rattle.lb_names.proofs.Heads.{query_marks_are, expr_marks_are, cond_marks_are}
 
@@ -125,7 +128,7 @@ select_is C s wanted total out t k =
     ∙ (λ i. k i >>= λ ks. keys_typed C ((answers C s.query).shown (record { subquery = false; one = false; total = total; wanted = wanted }) outermost) (out-Query s.query).distinct (out-Query s.query).items ks.0 s.order ks.1 >>= λ x. Ok (ks.0, x.1))
 
 two_outputs_total : list_any (is_total_key small) e.two_outputs.order ≡ false
-two_outputs_total = simp (means_are small, expr_sum typing (steps small), signed_roll typing (steps small), expr_atom typing (steps small)) refl
+two_outputs_total = ap (λ m. m.total || false) (means_are small (exprs.Apply functions.Length one) ∙ expr_apply typing (steps small) functions.Length one) ∙ ap (λ m. m.total || false) (expr_atom typing (steps small) (atoms.Int (pos 1)))
 
 two_outputs_kinds : (answers small e.two_outputs.query).kinds (record { subquery = false; one = false; total = false; wanted = Some (integer ∷ []) }) outermost 0 ≡ Err 0
 unfolding answers
@@ -135,7 +138,7 @@ pub too_many_outputs : types_refused small e.too_many_outputs ≡ Some (Types 0)
 too_many_outputs = ap broken (select_is small e.two_outputs (Some (integer ∷ [])) false (Err 0) two_outputs_total two_outputs_kinds)
 
 by_a_label_total : list_any (is_total_key small) e.by_a_label.order ≡ false
-by_a_label_total = simp (means_are small, expr_atom typing (steps small)) refl
+by_a_label_total = ap (λ m. m.total || false) (means_are small (int 3) ∙ expr_atom typing (steps small) (atoms.Int (pos 3)))
 
 by_a_label_kinds : (answers small e.by_a_label.query).kinds (record { subquery = false; one = false; total = false; wanted = None }) outermost 0 ≡ Ok (integer ∷ text ∷ label p ∷ [], 3)
 unfolding answers
@@ -145,7 +148,7 @@ pub by_a_label : types_refused small (stmts.Select e.by_a_label) ≡ Some (Types
 by_a_label = ap broken (select_is small e.by_a_label None false (Ok (integer ∷ text ∷ label p ∷ [], 3)) by_a_label_total by_a_label_kinds) ∙ simp (outs-Atom) refl
 
 by_another_total : list_any (is_total_key small) e.by_another_column.order ≡ false
-by_another_total = simp (means_are small, expr_atom typing (steps small)) refl
+by_another_total = ap (λ m. m.total || false) (means_are small (col b) ∙ expr_atom typing (steps small) (atoms.Column (record { correlation = None; name = b })))
 
 by_another_kinds : (answers small e.by_another_column.query).kinds (record { subquery = false; one = false; total = false; wanted = None }) outermost 0 ≡ Ok (integer ∷ [], 2)
 unfolding answers

@@ -82,11 +82,11 @@ group_of_outer_column = select (grouped (show (col a) ∷ []) (from (table k)) N
 abbrev pub too_many_values : Stmt
 too_many_values = insert k None (sources.Rows ((one ∷ word ∷ []) ∷ (one ∷ plus (int 2) word ∷ int 3 ∷ []) ∷ (word ∷ one ∷ []) ∷ []))
 
--- SELECT A, A FROM K ORDER BY 'x' + 1
+-- SELECT A, A FROM K ORDER BY LENGTH(1)
 abbrev pub two_outputs : Select
-two_outputs = ordered (query (show (col a) ∷ show (col a) ∷ []) (from (table k)) None) (key (plus word one) ∷ [])
+two_outputs = ordered (query (show (col a) ∷ show (col a) ∷ []) (from (table k)) None) (key (exprs.Apply functions.Length one) ∷ [])
 
--- INSERT INTO W (A) SELECT A, A FROM K ORDER BY 'x' + 1: the query, before its ORDER BY
+-- INSERT INTO W (A) SELECT A, A FROM K ORDER BY LENGTH(1): the query, before its ORDER BY
 abbrev pub too_many_outputs : Stmt
 too_many_outputs = insert w (Some (a ∷ [])) (sources.Query two_outputs)
 
