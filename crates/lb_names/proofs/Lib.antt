@@ -6,6 +6,7 @@ pub mod NamesFrame
 pub mod OneForm
 pub mod QualifiedFrame
 pub mod Carried
+pub mod CarriedMarks
 pub mod Alike
 pub mod AlikeLists
 pub mod AlikeSteps

@@ -10,6 +10,7 @@ use Rattle.lb_names.specs.Marks.{cond_marks, expr_marks, query_marks}
 use Rattle.lb_names.specs.StatementMarks.{marks_of}
 use Rattle.lb_names.specs.Mentions.{table, in_cond, in_expr, in_query, in_stmt, mentions}
 use Rattle.lb_names.specs.Scopes.{Catalogue}
+use Rattle.lb_names.specs.Typing.{says, means, answers}
 use Rattle.lb_names.specs.Statements.{names_refused, types_refused, permission_names_refused, permission_types_refused, permission_qualified, mask_names_refused, mask_types_refused, mask_qualified}
 use Rattle.lb_names.specs.Qualified.{are_qualified, are_qualified_in}
 use Rattle.lb_names.specs.Agreeing.{AgreeOn, AreThere}
@@ -20,6 +21,12 @@ pub record MentionsAreMarked : Type 0 where
   pub in_expr : (e : Expr) (v : Sight) → mentions (expr_marks e v) ≡ in_expr e
   pub in_query : (q : Query) (v : Sight) → mentions (query_marks q v) ≡ in_query q
   pub in_stmt : (s : Stmt) → mentions (marks_of s) ≡ in_stmt s
+
+-- the names that typing sees in a tree are its marks, in every catalogue
+pub record TypingCarriesMarks (C : Catalogue) : Type 0 where
+  pub cond : (c : Cond) (v : Sight) → (says C c).marks v ≡ cond_marks c v
+  pub expr : (e : Expr) (v : Sight) → (means C e).marks v ≡ expr_marks e v
+  pub query : (q : Query) (v : Sight) → (answers C q).marks v ≡ query_marks q v
 
 -- catalogues that agree on what a statement mentions, or a permission or mask with its table, refuse the same for names
 pub record NamesHaveAFrame (C D : Catalogue) : Type 0 where

@@ -3,7 +3,7 @@ ghost use Rattle.std.specs.Prelude.{◌≡◌, Some, None, [], ◌∷◌, true};
 ghost use Rattle.lb_stmt.specs.declared.write.Stmt.TheVariants as stmts;
 ghost use Rattle.lb_names.specs.declared.refused.Refused.TheVariants.{BadLabel, Exists, Types, Unknown};
 ghost use Rattle.lb_names.specs.Examples as e;
-ghost use Rattle.lb_names.specs.Laws.{FormsAreQualified, FormsHaveAFrame, FormsKeepMentions, MentionsAreMarked, MentionsAreThere, NamesHaveAFrame, TypesHaveAFrame};
+ghost use Rattle.lb_names.specs.Laws.{FormsAreQualified, FormsHaveAFrame, FormsKeepMentions, MentionsAreMarked, MentionsAreThere, NamesHaveAFrame, TypesHaveAFrame, TypingCarriesMarks};
 ghost use Rattle.lb_names.specs.Scopes.{Catalogue};
 ghost use Rattle.lb_names.specs.Small.{a, b, k, small, table, w, x};
 ghost use Rattle.lb_names.specs.StatementMarks.{marks_of};
@@ -13,6 +13,11 @@ ghost use Rattle.lb_names.specs.Used.{used_items};
 /// What a statement mentions of the catalogue is what its names mention, in text order.
 pub fn mentions_are_marked()
     ensures { MentionsAreMarked }
+{}
+
+/// The names that typing sees in a tree are the marks of the tree.
+pub fn typing_carries_marks()
+    ensures { (C : Catalogue) → TypingCarriesMarks C }
 {}
 
 /// The first refusal for names depends on the catalogue by what is mentioned alone.
