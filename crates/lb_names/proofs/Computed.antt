@@ -18,7 +18,7 @@ use Rattle.lb_tree.specs.declared.query.Cond.TheVariants as conds
 use Rattle.lb_tree.specs.declared.query.Cond.TheViews.{out-roll-Query, outs-Atom, outs-Case, outs-Apply, outs-Sum, outs-Value, outs-AllOf, outs-Compare}
 use Rattle.lb_tree.specs.declared.query.Expr.{Expr}
 use Rattle.lb_tree.specs.Folds.{cond_of, expr_of}
-use Rattle.lb_tree.proofs.Opens.{cond_or, cond_and, cond_not, cond_exists, cond_compare, cond_comparequery, cond_isnull, cond_inquery, cond_inlist, cond_between, expr_atom, expr_sum, expr_concat, expr_product, expr_case, expr_match, expr_aggregate, expr_substr, expr_apply, expr_coalesce, item_value, item_everything, item_allof, join_inner, join_left, join_cross, query_roll, chain_roll, signed_roll, arm_roll, choice_roll}
+use Rattle.lb_tree.proofs.Opens.{cond_and, cond_exists, cond_compare, cond_isnull, cond_inquery, expr_atom, expr_sum, expr_case, expr_aggregate, expr_apply, item_value, item_everything, item_allof, join_inner, query_roll, chain_roll, signed_roll, arm_roll}
 use Rattle.lb_names.specs.declared.place.Seen.{Seen}
 use Rattle.lb_names.specs.declared.refused.Refused.TheVariants.{Unknown, Exists, BadLabel, Types}
 use Rattle.lb_names.specs.Marks.{marked, mark_steps}
@@ -29,7 +29,7 @@ use Rattle.lb_names.specs.Parts.{kind_of_two, kind_with_all, kind_of_arm, kind_o
 use Rattle.lb_names.specs.Expressions.{case_kind, apply_kind}
 use Rattle.lb_names.specs.Conditions.{compare_typed}
 use Rattle.lb_names.specs.Typing.{steps, says, means, answers}
-use Rattle.lb_names.specs.Same.{same, liking, like_steps}
+use Rattle.lb_names.specs.Same.{same}
 use Rattle.lb_names.specs.Qualify.{qualifying, qualify_steps, qualified_cond}
 use Rattle.lb_names.specs.Used.{used_items}
 use Rattle.lb_names.specs.Statements.{broken, names_refused, types_refused, permission_names_refused, permission_types_refused, mask_types_refused, permission_qualified}

@@ -1,5 +1,5 @@
 -- What is stored of an accepted condition is qualified.
-use Rattle.std.proofs.Common.{◌≡◌, List, [], ◌∷◌, Bool, true, Option, None}
+use Rattle.std.proofs.Common.{◌≡◌, [], ◌∷◌, Bool, true, Option, None}
 use Rattle.lb_tree.specs.declared.query.Tab.{Tab}
 use Rattle.lb_tree.specs.declared.query.Cond.{Cond}
 use Rattle.lb_tree.specs.declared.query.Expr.{Expr}

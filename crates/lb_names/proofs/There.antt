@@ -1,5 +1,5 @@
 -- What is mentioned is there where the names are not refused.
-use Rattle.std.proofs.Common.{ℕ, ◌≡◌, refl, ap, sym, subst, ◌∙◌, List, [], ◌∷◌, Bool, true, false, cond, Option, Some, None}
+use Rattle.std.proofs.Common.{◌≡◌, refl, subst, [], ◌∷◌, Bool, true, false, cond, Option, Some, None}
 use Rattle.lb_tree.specs.declared.query.Atom.{Atom}
 use Rattle.lb_tree.specs.declared.query.Atom.TheVariants as atoms
 use Rattle.lb_tree.specs.declared.query.Tab.{Tab}
@@ -10,13 +10,13 @@ use Rattle.lb_names.specs.declared.refused.Refused.{Refused}
 use Rattle.lb_names.specs.declared.refused.Refused.TheVariants.{Unknown, Exists}
 use Rattle.lb_names.specs.Sights.{Name, correlation}
 use Rattle.lb_names.specs.SortNames.{or_else}
-use Rattle.lb_names.specs.Marks.{Mark, enter, item, column, star, call, Marks}
+use Rattle.lb_names.specs.Marks.{enter, item, column, star, call, Marks}
 use Rattle.lb_names.specs.StatementMarks.{over, marks_of, permission_marks, mask_marks}
-use Rattle.lb_names.specs.Mentions.{Mention, Mentions, table, policy, label, mention, mention_in, mentions, in_cond, in_expr, in_stmt}
+use Rattle.lb_names.specs.Mentions.{Mentions, mentions, in_cond, in_expr, in_stmt}
 use Rattle.lb_names.specs.Scopes.{Catalogue, is_some}
 use Rattle.lb_names.specs.Passes.{first, is_taken, refusal_if, item_refusal, column_refusal, call_refusal, text_refusal, unless_known, passes}
 use Rattle.lb_names.specs.Statements.{target_columns_refused, names_refused, permission_names_refused, mask_names_refused}
-use Rattle.lb_names.specs.Agreeing.{IsThere, AreThere}
+use Rattle.lb_names.specs.Agreeing.{AreThere}
 use Rattle.lb_names.proofs.Mentioning.{of_cond, of_expr, of_stmt}
 
 pub neither : {A : Type 0} (a b : Option A) → or_else a b ≡ None → (a ≡ None) × (b ≡ None)

@@ -1,5 +1,5 @@
 -- Two catalogues that say the same of everything that is mentioned.
-use Rattle.std.specs.Prelude.{◌≡◌, true, List, [], ◌∷◌}
+use Rattle.std.specs.Prelude.{◌≡◌, true, [], ◌∷◌}
 use Rattle.lb_names.specs.Sights.{Name}
 use Rattle.lb_names.specs.Mentions.{Mention, Mentions, table, policy, label}
 use Rattle.lb_names.specs.Scopes.{Catalogue, is_some}

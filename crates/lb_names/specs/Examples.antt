@@ -1,5 +1,5 @@
 -- Statements, permissions and masks whose names or types are refused, or not, written out as trees.
-use Rattle.std.specs.Prelude.{true, false, List, [], ◌∷◌, Option, Some, None}
+use Rattle.std.specs.Prelude.{true, false, List, [], ◌∷◌, Some, None}
 use Rattle.lb_tree.specs.declared.query.Aggregate.TheVariants as aggregates
 use Rattle.lb_tree.specs.declared.query.Function.TheVariants as functions
 use Rattle.lb_tree.specs.declared.query.Atom.TheVariants as atoms

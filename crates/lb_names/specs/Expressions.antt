@@ -15,7 +15,7 @@ use Rattle.lb_names.specs.Scopes.{Catalogue, Resolved, resolve, spot_of}
 use Rattle.lb_names.specs.Passes.{all_own}
 use Rattle.lb_names.specs.Typed.{Typed, next, ◌>>=◌, only_if, one_of}
 use Rattle.lb_names.specs.Places.{Place, in_aggregate, is_free}
-use Rattle.lb_names.specs.Carriers.{Means, Says, Arms, Choices, typing, typing_marks}
+use Rattle.lb_names.specs.Carriers.{Means, Arms, Choices, typing, typing_marks}
 use Rattle.lb_names.specs.Parts.{kind_of_all, kind_with, kind_of_any, kind_of_results, kinds_of_match}
 
 -- the node of that number has the kind that its parts have in common

@@ -1,5 +1,5 @@
 -- The names that a query, a condition or an expression writes, in text order, each with what is in sight of it. No catalogue is asked.
-use Rattle.std.specs.Prelude.{ℕ, List, [], ◌∷◌, ◌++◌, map, Option, None, Some}
+use Rattle.std.specs.Prelude.{List, [], ◌∷◌, ◌++◌, map, Option, None, Some}
 use Rattle.std.specs.List.{flat_map}
 use Rattle.lb_tree.specs.declared.query.Atom.{Atom}
 use Rattle.lb_tree.specs.declared.query.Atom.TheVariants as atoms

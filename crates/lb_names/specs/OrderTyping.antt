@@ -1,7 +1,6 @@
 -- The types of a query with its ORDER BY.
-use Rattle.std.specs.Prelude.{ℕ, zero, suc, slice_get, ℤ, pos, negsuc, Bool, true, false, not, ◌&&◌, ◌||◌, ◌==◌, List, [], ◌∷◌, Option, Some, None, Ok, Err}
+use Rattle.std.specs.Prelude.{ℕ, zero, suc, slice_get, ℤ, pos, negsuc, Bool, false, not, ◌&&◌, ◌||◌, ◌==◌, List, [], ◌∷◌, Option, Some, None, Ok, Err}
 use Rattle.std.specs.List.{list_any}
-use Rattle.std.specs.Str.{bytes_eq}
 use Rattle.lb_tree.specs.declared.query.Atom.TheVariants as atoms
 use Rattle.lb_tree.specs.declared.query.Expr.{Expr}
 use Rattle.lb_tree.specs.declared.query.Item.{Item}
@@ -18,7 +17,6 @@ use Rattle.lb_names.specs.Passes.{is_called}
 use Rattle.lb_names.specs.Typed.{Typed, next, ◌>>=◌, only_if}
 use Rattle.lb_names.specs.Places.{Place, outermost}
 use Rattle.lb_names.specs.Carriers.{Role}
-use Rattle.lb_names.specs.SelectLists.{called}
 use Rattle.lb_names.specs.Typing.{means, answers}
 use Rattle.lb_names.specs.Same.{same}
 

@@ -1,5 +1,5 @@
 -- The passes over the names of a text: tables and correlation names, columns, policies and labels of calls, label texts.
-use Rattle.std.specs.Prelude.{ℕ, Bool, true, false, ◌&&◌, ◌||◌, ◌==◌, if◌then◌else◌, List, [], ◌∷◌, map, Option, Some, None, Ok, Err}
+use Rattle.std.specs.Prelude.{ℕ, Bool, true, false, ◌&&◌, ◌||◌, ◌==◌, if◌then◌else◌, List, [], ◌∷◌, Option, Some, None, Ok, Err}
 use Rattle.std.specs.List.{list_any, list_all}
 use Rattle.std.specs.Str.{bytes_eq}
 use Rattle.lb_tree.specs.declared.query.Atom.{Atom}
@@ -8,7 +8,7 @@ use Rattle.lb_names.specs.declared.place.Seen.{Seen}
 use Rattle.lb_names.specs.declared.refused.Refused.{Refused}
 use Rattle.lb_names.specs.declared.refused.Refused.TheVariants.{Unknown, Exists, BadLabel}
 use Rattle.lb_names.specs.Sights.{Name, correlation}
-use Rattle.lb_names.specs.Marks.{Mark, enter, item, column, star, call, Marks}
+use Rattle.lb_names.specs.Marks.{Mark, item, column, star, call, Marks}
 use Rattle.lb_names.specs.SortNames.{or_else}
 use Rattle.lb_names.specs.Scopes.{Catalogue, is_some, Resolved, resolve}
 

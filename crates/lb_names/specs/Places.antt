@@ -1,5 +1,5 @@
 -- Where an expression stands in a query, and what the place asks of it.
-use Rattle.std.specs.Prelude.{ℕ, Bool, true, false, not, ◌||◌, ◌==◌, List, []}
+use Rattle.std.specs.Prelude.{Bool, true, false, not, ◌||◌, ◌==◌, List, []}
 use Rattle.std.specs.List.{list_any, list_all}
 use Rattle.lb_tree.specs.declared.query.Tab.{Tab}
 use Rattle.lb_names.specs.declared.place.Seen.{Seen}

@@ -1,5 +1,5 @@
 -- A condition or CASE with each of its columns qualified, as a permission or a mask stores it.
-use Rattle.std.specs.Prelude.{List, [], ◌∷◌, ◌++◌, map, Option, Some, None, option_map, Ok, Err}
+use Rattle.std.specs.Prelude.{List, [], ◌∷◌, ◌++◌, map, Option, Some, option_map, Ok, Err}
 use Rattle.std.specs.List.{flat_map}
 use Rattle.lb_tree.specs.declared.query.Atom.{Atom}
 use Rattle.lb_tree.specs.declared.query.Atom.TheVariants as atoms

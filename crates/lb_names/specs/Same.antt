@@ -1,5 +1,5 @@
 -- Expressions that are the same, their columns compared by what they mean. None with a subquery is the same as another.
-use Rattle.std.specs.Prelude.{ℕ, ℤ, Bool, true, false, not, ◌&&◌, ◌==◌, if◌then◌else◌, List, [], ◌∷◌, map, Option, Some, None, int_le}
+use Rattle.std.specs.Prelude.{ℤ, Bool, true, false, not, ◌&&◌, if◌then◌else◌, List, [], ◌∷◌, Option, Some, None, int_le}
 use Rattle.std.specs.Str.{bytes_eq}
 use Rattle.lb_tree.specs.declared.query.Comparison.{Comparison}
 use Rattle.lb_tree.specs.declared.query.Comparison.TheVariants as comparisons

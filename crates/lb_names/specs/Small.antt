@@ -1,6 +1,5 @@
 -- A small catalogue, and short ways to write trees, for examples.
-use Rattle.std.specs.Prelude.{ℕ, pos, Bool, true, false, ◌&&◌, if◌then◌else◌, List, [], ◌∷◌, map, find, Option, Some, None, option_map}
-use Rattle.std.specs.List.{list_any}
+use Rattle.std.specs.Prelude.{ℕ, pos, false, ◌&&◌, if◌then◌else◌, List, [], ◌∷◌, Option, Some, None}
 use Rattle.std.specs.Str.{bytes_eq}
 use Rattle.lb_tree.specs.declared.query.Aggregate.TheVariants as aggregates
 use Rattle.lb_tree.specs.declared.query.Comparison.TheVariants as comparisons
@@ -16,7 +15,6 @@ use Rattle.lb_tree.specs.declared.query.Item.TheVariants as items
 use Rattle.lb_tree.specs.declared.query.Join.{Join}
 use Rattle.lb_tree.specs.declared.query.Chain.{Chain}
 use Rattle.lb_tree.specs.declared.query.Query.{Query}
-use Rattle.lb_tree.specs.declared.query.Signed.{Signed}
 use Rattle.lb_tree.specs.declared.query.SortKey.{SortKey}
 use Rattle.lb_tree.specs.declared.query.Select.{Select}
 use Rattle.lb_tree.specs.declared.query.Direction.TheVariants.{Ascending}

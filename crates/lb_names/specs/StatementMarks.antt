@@ -15,8 +15,8 @@ use Rattle.lb_stmt.specs.declared.write.InsertSource.{InsertSource}
 use Rattle.lb_stmt.specs.declared.write.InsertSource.TheVariants as sources
 use Rattle.lb_stmt.specs.declared.write.Stmt.{Stmt}
 use Rattle.lb_stmt.specs.declared.write.Stmt.TheVariants as stmts
-use Rattle.lb_names.specs.Sights.{Name, Sight, nothing, inside, items_in}
-use Rattle.lb_names.specs.Marks.{Mark, enter, item, Marks, marked, mark_steps, tables_of, cond_marks, expr_marks, query_marks}
+use Rattle.lb_names.specs.Sights.{Name, Sight, nothing, inside}
+use Rattle.lb_names.specs.Marks.{enter, item, Marks, marked, mark_steps, tables_of, cond_marks, expr_marks, query_marks}
 use Rattle.lb_names.specs.SortNames.{meant}
 
 -- ---- queries with ORDER BY

@@ -4,7 +4,6 @@ use Rattle.std.specs.List.{list_any, flat_map}
 use Rattle.lb_tree.specs.declared.query.Tab.{Tab}
 use Rattle.lb_tree.specs.declared.query.Expr.{Expr}
 use Rattle.lb_tree.specs.declared.query.Cond.{Cond}
-use Rattle.lb_tree.specs.declared.query.Select.{Select}
 use Rattle.lb_stmt.specs.declared.write.Assignment.{Assignment}
 use Rattle.lb_stmt.specs.declared.write.InsertSource.{InsertSource}
 use Rattle.lb_stmt.specs.declared.write.InsertSource.TheVariants as sources
@@ -16,11 +15,11 @@ use Rattle.lb_names.specs.Sights.{Name}
 use Rattle.lb_names.specs.SortNames.{or_else}
 use Rattle.lb_names.specs.StatementMarks.{over, target_of, marks_of, permission_marks, mask_marks}
 use Rattle.lb_names.specs.Kinds.{Kind, is_label, takes}
-use Rattle.lb_names.specs.Scopes.{Field, Catalogue, is_some, listed, field_named, columns_of}
+use Rattle.lb_names.specs.Scopes.{Field, Catalogue, is_some, field_named, columns_of}
 use Rattle.lb_names.specs.Passes.{holds, refusal_if, passes}
 use Rattle.lb_names.specs.Typed.{Typed, ◌>>=◌, only_if}
 use Rattle.lb_names.specs.Places.{Place, outermost}
-use Rattle.lb_names.specs.Typing.{says, means, maybe_typed}
+use Rattle.lb_names.specs.Typing.{says, means}
 use Rattle.lb_names.specs.OrderTyping.{select_typed}
 use Rattle.lb_names.specs.Qualify.{qualified_cond, qualified_expr}
 

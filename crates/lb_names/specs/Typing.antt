@@ -1,5 +1,5 @@
 -- The types of queries, and of whole trees. A node is numbered before its parts, these in text order.
-use Rattle.std.specs.Prelude.{ℕ, Bool, true, false, not, ◌&&◌, ◌||◌, ◌==◌, if◌then◌else◌, List, [], ◌∷◌, length, Option, Some, None, Ok, Err}
+use Rattle.std.specs.Prelude.{ℕ, Bool, true, false, not, ◌&&◌, ◌||◌, ◌==◌, if◌then◌else◌, List, [], ◌∷◌, length, Option, Some, None, Ok}
 use Rattle.std.specs.List.{list_any, flat_map}
 use Rattle.lb_tree.specs.declared.query.Column.{Column}
 use Rattle.lb_tree.specs.declared.query.Tab.{Tab}
@@ -15,7 +15,7 @@ use Rattle.lb_tree.specs.declared.query.Signed.{Signed}
 use Rattle.lb_tree.specs.declared.query.Cond.TheOpen as layers
 use Rattle.lb_tree.specs.Folds.{Layer, Steps, cond_of, expr_of, item_of, join_of, arm_of, chain_of, choice_of, query_of, signed_of}
 use Rattle.lb_names.specs.declared.place.Group.{Group}
-use Rattle.lb_names.specs.Sights.{Name, calls_of, inside, level_in}
+use Rattle.lb_names.specs.Sights.{calls_of, inside}
 use Rattle.lb_names.specs.Marks.{marks_in_query, tables_from}
 use Rattle.lb_names.specs.Kinds.{Kind, is_label}
 use Rattle.lb_names.specs.Scopes.{Catalogue, is_some, resolve, spots}

@@ -1,11 +1,11 @@
 -- The columns that a statement names through each of its FROM items. A table that stands twice is two items.
-use Rattle.std.specs.Prelude.{ℕ, Bool, true, false, ◌&&◌, ◌||◌, ◌==◌, if◌then◌else◌, List, [], ◌∷◌, ◌++◌, map, Option, Some, None, Ok, Err}
+use Rattle.std.specs.Prelude.{ℕ, Bool, true, false, ◌&&◌, ◌==◌, if◌then◌else◌, List, [], ◌∷◌, ◌++◌, map, Option, Some, None, Ok, Err}
 use Rattle.std.specs.List.{list_any, flat_map}
 use Rattle.std.specs.Str.{bytes_eq}
 use Rattle.lb_tree.specs.declared.query.Tab.{Tab}
 use Rattle.lb_names.specs.declared.place.Seen.{Seen}
 use Rattle.lb_names.specs.Sights.{Name, correlation}
-use Rattle.lb_names.specs.Marks.{Mark, enter, item, column, star, call, Marks}
+use Rattle.lb_names.specs.Marks.{Mark, enter, column, star, Marks}
 use Rattle.lb_names.specs.Scopes.{Catalogue, Resolved, resolve}
 
 -- a FROM item, or the target of a write, and what is named through it
