@@ -1,19 +1,19 @@
 -- Lists of parts that have the same types in two catalogues, at places where these agree.
-use Rattle.std.proofs.Common.{ℕ, ◌≡◌, refl, ap, sym, subst, ◌∙◌, List, [], ◌∷◌, ◌++◌, Bool, true, false, cond, ◌&&◌, ◌||◌, not, Option, Some, None, map, Ok, length, ◌+◌}
-use Rattle.std.specs.List.{list_any, list_all, flat_map}
+use Rattle.std.proofs.Common.{ℕ, ◌≡◌, refl, ap, ◌∙◌, List, [], ◌∷◌, ◌++◌, true, false, cond, ◌&&◌, ◌||◌, not, Option, Some, None, map, Ok, length, ◌+◌}
+use Rattle.std.specs.List.{list_any, list_all}
 use Rattle.std.specs.Str.{bytes_eq}
 use Rattle.lb_tree.specs.declared.query.Tab.{Tab}
 use Rattle.lb_tree.specs.declared.query.Column.{Column}
 use Rattle.lb_names.specs.declared.place.Seen.{Seen}
-use Rattle.lb_names.specs.Sights.{Name, correlation, Sight, inside, inside_on, level_in, at_level, items_in}
-use Rattle.lb_names.specs.Kinds.{Kind, Common, with_kind, is_label}
-use Rattle.lb_names.specs.Scopes.{Catalogue, is_some, listed, columns_of, resolve, spot_of}
-use Rattle.lb_names.specs.Typed.{Typed, next, ◌>>=◌, only_if}
+use Rattle.lb_names.specs.Sights.{Name, correlation, Sight, inside, level_in, at_level}
+use Rattle.lb_names.specs.Kinds.{Kind, Common, with_kind}
+use Rattle.lb_names.specs.Scopes.{Catalogue, is_some, listed, spot_of}
+use Rattle.lb_names.specs.Typed.{next, ◌>>=◌, only_if}
 use Rattle.lb_names.specs.Places.{Place, on_place, is_free, all_free}
 use Rattle.lb_names.specs.Carriers.{Means, Says, Wanted, Shows, Joins, Chains, Arms, Choices, Role, Answers}
 use Rattle.lb_names.specs.Parts.{kind_of_all, kind_of_any, kind_of_arm, kind_of_arms, and_kind, kinds_of_choice, kinds_of_choices, all_typed}
 use Rattle.lb_names.specs.Expressions.{kind_found, is_total, is_sure, if_any, unless_any}
-use Rattle.lb_names.specs.SelectLists.{column_kinds, kinds_of_item, fit, star_outputs, called, widths, rest_of, outputs_of, joins_typed, chains_typed}
+use Rattle.lb_names.specs.SelectLists.{column_kinds, fit, star_outputs, called, widths, rest_of, outputs_of, joins_typed, chains_typed}
 use Rattle.lb_names.specs.Typing.{maybe_typed, no_label, group_typed}
 use Rattle.lb_names.proofs.NamesFrame.{resolve_same}
 use Rattle.lb_names.proofs.Sighted as s

@@ -1,7 +1,6 @@
 -- Nodes whose parts have the same types in two catalogues have the same types.
-use Rattle.std.proofs.Common.{ℕ, ◌≡◌, refl, ap, sym, subst, ◌∙◌, List, [], ◌∷◌, ◌++◌, Bool, true, false, ◌&&◌, ◌||◌, if◌then◌else◌, Option, Some, None, map, Ok, Err}
-use Rattle.std.specs.List.{list_any, list_all, flat_map}
-use Rattle.std.specs.Str.{bytes_eq}
+use Rattle.std.proofs.Common.{ℕ, ◌≡◌, refl, ap, ◌∙◌, List, [], ◌∷◌, Bool, true, false, ◌&&◌, ◌||◌, if◌then◌else◌, Option, None, map, Ok, Err}
+use Rattle.std.specs.List.{flat_map}
 use Rattle.lb_tree.specs.declared.query.Comparison.{Comparison}
 use Rattle.lb_tree.specs.declared.query.Aggregate.{Aggregate}
 use Rattle.lb_tree.specs.declared.query.Function.{Function}
@@ -13,18 +12,18 @@ use Rattle.lb_tree.specs.declared.query.Cond.TheOpen as layers
 use Rattle.lb_tree.specs.Folds.{Layer}
 use Rattle.lb_names.specs.declared.place.Group.{Group}
 use Rattle.lb_names.specs.Sights.{Name, calls_of, inside}
-use Rattle.lb_names.specs.Marks.{Mark, enter, item, column, star, call, Marks, tables_of, tables_from}
-use Rattle.lb_names.specs.Kinds.{Kind, Common, one, null, integer, text, with_kind, both, aggregated}
-use Rattle.lb_names.specs.Scopes.{Catalogue, resolve, spots}
+use Rattle.lb_names.specs.Marks.{Mark, enter, item, column, star, call, Marks, tables_of}
+use Rattle.lb_names.specs.Kinds.{Kind, one, null, integer, text, with_kind, both, aggregated}
+use Rattle.lb_names.specs.Scopes.{Catalogue, spots}
 use Rattle.lb_names.specs.Passes.{is_at, is_own, all_own}
 use Rattle.lb_names.specs.Typed.{Typed, next, ◌>>=◌, only_if, one_of}
 use Rattle.lb_names.specs.Places.{Place, in_aggregate, filter_place, having_place, shown_place}
-use Rattle.lb_names.specs.Carriers.{Means, Says, Wanted, Shows, Joins, Chains, Arms, Choices, Role, Answers, typing, typing_marks, chain_marked, subquery}
-use Rattle.lb_names.specs.Parts.{kind_of_all, kind_of_two, kind_of_three, kind_with_all, kind_of_results, kinds_of_match}
-use Rattle.lb_names.specs.Expressions.{one_kind, plain_kind, kind_found, is_label_of, atom_kind, counts_rows, case_kind, plain_results, match_kind_of, number_kind, substr_kind, substr_kind_of, function_kind, apply_kind, expr_step}
+use Rattle.lb_names.specs.Carriers.{Means, Says, Wanted, Shows, Chains, Arms, Choices, Role, Answers, typing, chain_marked, subquery}
+use Rattle.lb_names.specs.Parts.{kind_of_two, kind_of_three, kind_with_all, kind_of_results, kinds_of_match}
+use Rattle.lb_names.specs.Expressions.{one_kind, plain_kind, kind_found, is_label_of, atom_kind, case_kind, plain_results, match_kind_of, number_kind, substr_kind, substr_kind_of, function_kind, apply_kind, expr_step}
 use Rattle.lb_names.specs.Conditions.{of_plain, compared, first_kind, compare_typed, in_list_typed, between_typed, cond_step}
-use Rattle.lb_names.specs.SelectLists.{fit, called, item_step, join_step, chain_step, widths, outputs_of, chains_typed}
-use Rattle.lb_names.specs.Typing.{is_listed, has_groups, group_of, groups_of, maybe_typed, group_typed, is_width, wanted_of, query_fits, query_step}
+use Rattle.lb_names.specs.SelectLists.{fit, called, item_step, join_step, widths, outputs_of, chains_typed}
+use Rattle.lb_names.specs.Typing.{is_listed, group_of, groups_of, maybe_typed, group_typed, is_width, wanted_of, query_fits, query_step}
 use Rattle.lb_names.proofs.NamesFrame.{resolve_same}
 use Rattle.lb_names.proofs.Sighted as s
 use Rattle.lb_names.proofs.AlikeLists as l
@@ -189,12 +188,12 @@ module _ (C D : Catalogue) where
     kinds_path : (R : Role) (P : Place) → l.PlaceAgrees C D P → (at : ℕ) → (query_step C query_c).kinds R P at ≡ (query_step D query_d).kinds R P at
     kinds_path R P p at =
         (λ i.
-            l.outputs_all C D items others same_items [] (wanted_of query_c R P) (shown_place P tabs_c (groups_of C query_c R P)) (l.inside_agrees C D P.sight tabs_c agree p) (next at) i >>= λ ks.
-            l.chains_all C D from chains same_from P p (calls_of tabs_c) ks.1 i >>= λ f.
-            l.maybe_same C D filter where_ same_filter (filter_place P tabs_c) (l.inside_agrees C D P.sight tabs_c agree p) f.1 i >>= λ w.
-            l.group_same C D (filter_place P tabs_c) (l.inside_agrees C D P.sight tabs_c agree p) group w.1 i >>= λ g.
-            l.maybe_same C D having having_ same_having (having_place P tabs_c (groups_of C query_c R P)) (l.inside_agrees C D P.sight tabs_c agree p) g.1 i >>= λ h.
-            only_if (query_fits R P ks.0) at (ks.0, h.1))
+        l.outputs_all C D items others same_items [] (wanted_of query_c R P) (shown_place P tabs_c (groups_of C query_c R P)) (l.inside_agrees C D P.sight tabs_c agree p) (next at) i >>= λ ks.
+        l.chains_all C D from chains same_from P p (calls_of tabs_c) ks.1 i >>= λ f.
+        l.maybe_same C D filter where_ same_filter (filter_place P tabs_c) (l.inside_agrees C D P.sight tabs_c agree p) f.1 i >>= λ w.
+        l.group_same C D (filter_place P tabs_c) (l.inside_agrees C D P.sight tabs_c agree p) group w.1 i >>= λ g.
+        l.maybe_same C D having having_ same_having (having_place P tabs_c (groups_of C query_c R P)) (l.inside_agrees C D P.sight tabs_c agree p) g.1 i >>= λ h.
+        only_if (query_fits R P ks.0) at (ks.0, h.1))
         ∙ (λ i. in_d (tabs i) (groups_path R P p i) (wanted_path R P p i) R P at)
 
     pub query_same : l.AlikeAnswers C D (query_step C query_c) (query_step D query_d)

@@ -1,12 +1,24 @@
 -- The examples, computed.
-use Rattle.std.proofs.Common.{◌≡◌, refl, Some, None, [], ◌∷◌, true, List}
+use Rattle.std.specs.Prelude.{pos}
+use Rattle.lb_tree.specs.declared.query.Atom.TheVariants as atoms
+use Rattle.lb_tree.specs.declared.query.Function.TheVariants as functions
+use Rattle.std.proofs.Common.{◌≡◌, refl, ap, ◌∙◌, ◌||◌, Some, None, Option, [], ◌∷◌, Bool, true, false, List, Ok, Err}
+use Rattle.std.specs.List.{list_any}
+use Rattle.lb_tree.specs.declared.query.Select.{Select}
+use Rattle.lb_tree.specs.declared.query.Cond.TheViews.{out-Query}
+use Rattle.lb_stmt.specs.declared.write.Stmt.TheVariants as stmts
+use Rattle.lb_names.specs.Kinds.{Kind, integer, text, label}
+use Rattle.lb_names.specs.Typed.{Typed, ◌>>=◌}
+use Rattle.lb_names.specs.Places.{outermost}
+use Rattle.lb_names.specs.OrderTyping.{is_total_key, keys_typed, select_typed}
 use Rattle.lb_tree.specs.declared.query.Cond.{Cond}
 use Rattle.lb_tree.specs.declared.query.Expr.TheVariants as exprs
 use Rattle.lb_tree.specs.declared.query.Item.TheVariants as items
 use Rattle.lb_tree.specs.declared.query.Cond.TheVariants as conds
 use Rattle.lb_tree.specs.declared.query.Cond.TheViews.{out-roll-Query, outs-Atom, outs-Case, outs-Apply, outs-Sum, outs-Value, outs-AllOf, outs-Compare}
-use Rattle.lb_tree.specs.Folds.{cond_of}
-use Rattle.lb_tree.proofs.Opens.{cond_or, cond_and, cond_not, cond_exists, cond_compare, cond_comparequery, cond_isnull, cond_inquery, cond_inlist, cond_between, expr_atom, expr_sum, expr_concat, expr_product, expr_case, expr_match, expr_aggregate, expr_substr, expr_apply, expr_coalesce, item_value, item_everything, item_allof, join_inner, join_left, join_cross, query_roll, chain_roll, signed_roll, arm_roll, choice_roll}
+use Rattle.lb_tree.specs.declared.query.Expr.{Expr}
+use Rattle.lb_tree.specs.Folds.{cond_of, expr_of}
+use Rattle.lb_tree.proofs.Opens.{cond_and, cond_exists, cond_compare, cond_isnull, cond_inquery, expr_atom, expr_sum, expr_case, expr_aggregate, expr_apply, item_value, item_everything, item_allof, join_inner, query_roll, chain_roll, signed_roll, arm_roll}
 use Rattle.lb_names.specs.declared.place.Seen.{Seen}
 use Rattle.lb_names.specs.declared.refused.Refused.TheVariants.{Unknown, Exists, BadLabel, Types}
 use Rattle.lb_names.specs.Marks.{marked, mark_steps}
@@ -17,13 +29,17 @@ use Rattle.lb_names.specs.Parts.{kind_of_two, kind_with_all, kind_of_arm, kind_o
 use Rattle.lb_names.specs.Expressions.{case_kind, apply_kind}
 use Rattle.lb_names.specs.Conditions.{compare_typed}
 use Rattle.lb_names.specs.Typing.{steps, says, means, answers}
-use Rattle.lb_names.specs.Same.{same, liking, like_steps}
+use Rattle.lb_names.specs.Same.{same}
 use Rattle.lb_names.specs.Qualify.{qualifying, qualify_steps, qualified_cond}
 use Rattle.lb_names.specs.Used.{used_items}
-use Rattle.lb_names.specs.Statements.{names_refused, types_refused, permission_names_refused, permission_types_refused, mask_types_refused, permission_qualified}
-use Rattle.lb_names.specs.Small.{a, b, k, w, x, table, small}
+use Rattle.lb_names.specs.Statements.{broken, names_refused, types_refused, permission_names_refused, permission_types_refused, mask_types_refused, permission_qualified}
+use Rattle.lb_names.specs.Small.{a, b, k, p, w, x, one, int, col, table, small}
 use Rattle.lb_names.specs.Examples as e
 use Rattle.lb_names.proofs.Heads.{query_marks_are, expr_marks_are, cond_marks_are}
+
+means_are : (C : Catalogue) (e : Expr) → means C e ≡ expr_of typing (steps C) e
+unfolding means
+means_are C e = refl
 
 qualified_cond_is : (C : Catalogue) (c : Cond) (seen : List Seen) → qualified_cond C c seen ≡ (cond_of qualifying (qualify_steps C) c).at seen
 unfolding qualified_cond
@@ -81,18 +97,6 @@ pub too_many_values : types_refused small e.too_many_values ≡ Some (Types 2)
 unfolding says means answers same compare_typed kind_of_two kind_with_all kind_of_arm kind_of_results case_kind apply_kind
 too_many_values = simp (expr_atom typing (steps small), expr_sum typing (steps small), signed_roll typing (steps small)) refl
 
-pub too_many_outputs : types_refused small e.too_many_outputs ≡ Some (Types 0)
-unfolding says means answers same compare_typed kind_of_two kind_with_all kind_of_arm kind_of_results case_kind apply_kind
-too_many_outputs = simp (out-roll-Query, outs-Atom, outs-Case, outs-Apply, outs-Sum, outs-Value, outs-AllOf, outs-Compare, expr_atom typing (steps small), expr_sum typing (steps small), item_value typing (steps small), query_roll typing (steps small), chain_roll typing (steps small), signed_roll typing (steps small), chain_roll marked mark_steps) refl
-
-pub label_key : types_refused small e.label_key ≡ Some (Types 3)
-unfolding says means answers same compare_typed kind_of_two kind_with_all kind_of_arm kind_of_results case_kind apply_kind
-label_key = simp (out-roll-Query, outs-Atom, outs-Case, outs-Apply, outs-Sum, outs-Value, outs-AllOf, outs-Compare, expr_atom typing (steps small), item_value typing (steps small), item_allof typing (steps small), query_roll typing (steps small), chain_roll typing (steps small), chain_roll marked mark_steps) refl
-
-pub distinct_keys : types_refused small e.distinct_keys ≡ Some (Types 13)
-unfolding says means answers same compare_typed kind_of_two kind_with_all kind_of_arm kind_of_results case_kind apply_kind
-distinct_keys = simp (outs-Atom, outs-Case, outs-Apply, outs-Sum, outs-Value, outs-AllOf, outs-Compare, cond_compare typing (steps small), expr_atom typing (steps small), expr_case typing (steps small), expr_apply typing (steps small), item_value typing (steps small), item_allof typing (steps small), query_roll typing (steps small), chain_roll typing (steps small), arm_roll typing (steps small), chain_roll marked mark_steps) refl
-
 pub stored_star : permission_types_refused small (table k) e.stored_star ≡ Some (Types 3)
 unfolding says means answers same compare_typed kind_of_two kind_with_all kind_of_arm kind_of_results case_kind apply_kind
 stored_star = simp (cond_inquery typing (steps small), expr_atom typing (steps small), item_everything typing (steps small), query_roll typing (steps small), chain_roll typing (steps small)) refl
@@ -116,3 +120,40 @@ one_then_one = simp (query_marks_are, expr_marks_are, cond_marks_are, out-roll-Q
 
 pub all_columns : used_items small (marks_of e.all_columns) ≡ e.used w [] ∷ record (e.used k []) { everything = true } ∷ []
 all_columns = simp (query_marks_are, expr_marks_are, cond_marks_are, out-roll-Query, cond_exists marked mark_steps, expr_atom marked mark_steps, item_value marked mark_steps, item_everything marked mark_steps, query_roll marked mark_steps, chain_roll marked mark_steps) refl
+
+-- a query with ORDER BY, from its own outputs on
+select_is : (C : Catalogue) (s : Select) (wanted : Option (List Kind)) (total : Bool) (out : Typed (List Kind)) → list_any (is_total_key C) s.order ≡ total → (answers C s.query).kinds (record { subquery = false; one = false; total = total; wanted = wanted }) outermost 0 ≡ out → select_typed C s wanted ≡ (out >>= λ ks. keys_typed C ((answers C s.query).shown (record { subquery = false; one = false; total = total; wanted = wanted }) outermost) (out-Query s.query).distinct (out-Query s.query).items ks.0 s.order ks.1 >>= λ x. Ok (ks.0, x.1))
+select_is C s wanted total out t k =
+    (λ i. (answers C s.query).kinds (record { subquery = false; one = false; total = t i; wanted = wanted }) outermost 0 >>= λ ks. keys_typed C ((answers C s.query).shown (record { subquery = false; one = false; total = t i; wanted = wanted }) outermost) (out-Query s.query).distinct (out-Query s.query).items ks.0 s.order ks.1 >>= λ x. Ok (ks.0, x.1))
+    ∙ (λ i. k i >>= λ ks. keys_typed C ((answers C s.query).shown (record { subquery = false; one = false; total = total; wanted = wanted }) outermost) (out-Query s.query).distinct (out-Query s.query).items ks.0 s.order ks.1 >>= λ x. Ok (ks.0, x.1))
+
+two_outputs_total : list_any (is_total_key small) e.two_outputs.order ≡ false
+two_outputs_total = ap (λ m. m.total || false) (means_are small (exprs.Apply functions.Length one) ∙ expr_apply typing (steps small) functions.Length one) ∙ ap (λ m. m.total || false) (expr_atom typing (steps small) (atoms.Int (pos 1)))
+
+two_outputs_kinds : (answers small e.two_outputs.query).kinds (record { subquery = false; one = false; total = false; wanted = Some (integer ∷ []) }) outermost 0 ≡ Err 0
+unfolding answers
+two_outputs_kinds = simp (query_roll typing (steps small), chain_roll typing (steps small), item_value typing (steps small), expr_atom typing (steps small)) refl
+
+pub too_many_outputs : types_refused small e.too_many_outputs ≡ Some (Types 0)
+too_many_outputs = ap broken (select_is small e.two_outputs (Some (integer ∷ [])) false (Err 0) two_outputs_total two_outputs_kinds)
+
+by_a_label_total : list_any (is_total_key small) e.by_a_label.order ≡ false
+by_a_label_total = ap (λ m. m.total || false) (means_are small (int 3) ∙ expr_atom typing (steps small) (atoms.Int (pos 3)))
+
+by_a_label_kinds : (answers small e.by_a_label.query).kinds (record { subquery = false; one = false; total = false; wanted = None }) outermost 0 ≡ Ok (integer ∷ text ∷ label p ∷ [], 3)
+unfolding answers
+by_a_label_kinds = simp (query_roll typing (steps small), chain_roll typing (steps small), item_allof typing (steps small), item_value typing (steps small), expr_atom typing (steps small)) refl
+
+pub by_a_label : types_refused small (stmts.Select e.by_a_label) ≡ Some (Types 3)
+by_a_label = ap broken (select_is small e.by_a_label None false (Ok (integer ∷ text ∷ label p ∷ [], 3)) by_a_label_total by_a_label_kinds) ∙ simp (outs-Atom) refl
+
+by_another_total : list_any (is_total_key small) e.by_another_column.order ≡ false
+by_another_total = ap (λ m. m.total || false) (means_are small (col b) ∙ expr_atom typing (steps small) (atoms.Column (record { correlation = None; name = b })))
+
+by_another_kinds : (answers small e.by_another_column.query).kinds (record { subquery = false; one = false; total = false; wanted = None }) outermost 0 ≡ Ok (integer ∷ [], 2)
+unfolding answers
+by_another_kinds = simp (query_roll typing (steps small), chain_roll typing (steps small), item_allof typing (steps small)) refl
+
+pub by_another_column : types_refused small (stmts.Select e.by_another_column) ≡ Some (Types 2)
+unfolding means answers
+by_another_column = ap broken (select_is small e.by_another_column None false (Ok (integer ∷ [], 2)) by_another_total by_another_kinds) ∙ simp (out-roll-Query, outs-Atom, outs-AllOf, query_roll typing (steps small), chain_roll typing (steps small), item_allof typing (steps small), expr_atom typing (steps small)) refl

@@ -6,9 +6,15 @@ pub mod NamesFrame
 pub mod OneForm
 pub mod QualifiedFrame
 pub mod Carried
+pub mod CarriedMarks
 pub mod Alike
 pub mod AlikeLists
 pub mod AlikeSteps
 pub mod OneType
 pub mod TypesFrame
+pub mod Kept
+pub mod KeptForms
+pub mod There
+pub mod FoundColumns
+pub mod QualifiedForms
 pub mod Computed

@@ -1,8 +1,6 @@
 -- What a statement mentions is what its marks mention.
-use Rattle.std.proofs.Common.{◌≡◌, refl, ap, sym, ◌∙◌, List, [], ◌∷◌, ◌++◌, Option, Some, None}
+use Rattle.std.proofs.Common.{◌≡◌, refl, ap, sym, ◌∙◌, List, [], ◌∷◌, Option, Some, None}
 use Rattle.std.specs.List.{flat_map}
-use Rattle.std.proofs.lemmas.List.Elements.{filter_map-append}
-use Rattle.lb_tree.specs.declared.query.Atom.{Atom}
 use Rattle.lb_tree.specs.declared.query.Atom.TheVariants as atoms
 use Rattle.lb_tree.specs.declared.query.Column.{Column}
 use Rattle.lb_tree.specs.declared.query.Cond.{Cond}
@@ -16,16 +14,15 @@ use Rattle.lb_tree.specs.declared.query.Cond.TheOpen as layers
 use Rattle.lb_tree.specs.declared.query.Cond.TheViews.{out-Expr, roll-Expr, roll-out-Expr, out-Query}
 use Rattle.lb_tree.specs.Folds.{Written}
 use Rattle.lb_tree.proofs.Opens.{expr_roll}
-use Rattle.lb_stmt.specs.declared.write.Assignment.{Assignment}
 use Rattle.lb_stmt.specs.declared.write.InsertSource.{InsertSource}
 use Rattle.lb_stmt.specs.declared.write.InsertSource.TheVariants as sources
 use Rattle.lb_stmt.specs.declared.write.Stmt.{Stmt}
 use Rattle.lb_stmt.specs.declared.write.Stmt.TheVariants as stmts
-use Rattle.lb_names.specs.Sights.{Name, Sight, nothing}
+use Rattle.lb_names.specs.Sights.{Sight, nothing}
 use Rattle.lb_names.specs.Marks.{Marks, cond_marks, expr_marks, query_marks}
-use Rattle.lb_names.specs.SortNames.{bare_name, bare_column, maybe_named, meant}
-use Rattle.lb_names.specs.StatementMarks.{over, key_marks, marks_of_key, select_marks, order_sight, where_marks, assignment_marks, source_marks, rows_marks, marks_of}
-use Rattle.lb_names.specs.Mentions.{Mention, Mentions, table, mention, mentions, naming, naming_steps, in_expr_layer, in_cond, in_expr, in_query, in_key, in_select, in_where, in_assignment, in_source, in_stmt}
+use Rattle.lb_names.specs.SortNames.{bare_name, maybe_named, meant}
+use Rattle.lb_names.specs.StatementMarks.{over, key_marks, marks_of_key, select_marks, order_sight, where_marks, assignment_marks, source_marks, marks_of}
+use Rattle.lb_names.specs.Mentions.{Mentions, table, mentions, naming, naming_steps, in_cond, in_expr, in_query, in_key, in_select, in_where, in_assignment, in_source, in_stmt}
 use Rattle.lb_names.specs.Laws.{MentionsAreMarked}
 use Rattle.lb_names.proofs.Mentioned.{two, mentioned_cond, mentioned_expr, mentioned_query}
 

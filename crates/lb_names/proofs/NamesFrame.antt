@@ -1,5 +1,5 @@
 -- The first refusal for names depends on the catalogue by what is mentioned alone.
-use Rattle.std.proofs.Common.{ℕ, ◌≡◌, refl, ap, sym, subst, ◌∙◌, List, [], ◌∷◌, ◌++◌, Bool, true, false, Option, Some, None, ◌&&◌, ◌||◌, ◌==◌, if◌then◌else◌, Ok, Err, map}
+use Rattle.std.proofs.Common.{ℕ, ◌≡◌, refl, ap, List, [], ◌∷◌, Bool, true, false, Option, Some, None, ◌&&◌, ◌||◌, ◌==◌, if◌then◌else◌, Err, map}
 use Rattle.std.specs.List.{list_any, flat_map}
 use Rattle.std.specs.Str.{bytes_eq}
 use Rattle.lb_tree.specs.declared.query.Atom.{Atom}
@@ -13,7 +13,6 @@ use Rattle.lb_tree.specs.declared.query.Query.{Query}
 use Rattle.lb_tree.specs.declared.query.SortKey.{SortKey}
 use Rattle.lb_tree.specs.declared.query.Select.{Select}
 use Rattle.lb_tree.specs.declared.query.Cond.TheViews.{out-Query}
-use Rattle.lb_stmt.specs.declared.write.Assignment.{Assignment}
 use Rattle.lb_stmt.specs.declared.write.InsertSource.{InsertSource}
 use Rattle.lb_stmt.specs.declared.write.InsertSource.TheVariants as sources
 use Rattle.lb_stmt.specs.declared.write.Stmt.{Stmt}
@@ -21,15 +20,15 @@ use Rattle.lb_stmt.specs.declared.write.Stmt.TheVariants as stmts
 use Rattle.lb_names.specs.declared.place.Seen.{Seen}
 use Rattle.lb_names.specs.declared.refused.Refused.{Refused}
 use Rattle.lb_names.specs.declared.refused.Refused.TheVariants.{Unknown, Exists}
-use Rattle.lb_names.specs.Sights.{Name, correlation, Sight, nothing, inside}
+use Rattle.lb_names.specs.Sights.{Name, correlation, Sight, nothing}
 use Rattle.lb_names.specs.SortNames.{or_else, meant}
 use Rattle.lb_names.specs.Marks.{Mark, enter, item, column, star, call, Marks, cond_marks, expr_marks, query_marks}
-use Rattle.lb_names.specs.StatementMarks.{over, target_of, key_marks, marks_of_key, select_marks, order_sight, from_tables, where_marks, assignment_marks, source_marks, rows_marks, marks_of, permission_marks, mask_marks}
-use Rattle.lb_names.specs.Mentions.{Mention, Mentions, table, in_cond, in_expr, in_query, in_key, in_select, in_where, in_assignment, in_source, in_stmt}
-use Rattle.lb_names.specs.Scopes.{Field, Catalogue, is_some, listed, columns_of, field_named, has_column, Resolved, found_in, column_of, qualified, is_shared, unqualified, resolve}
-use Rattle.lb_names.specs.Passes.{holds, first, is_taken, refusal_if, item_refusal, unresolved, unless_known, column_refusal, call_refusal, call_refusal_of, fault, text_refusal, text_refusal_of, passes}
-use Rattle.lb_names.specs.Statements.{target_refused, targets_refused, written_refused, target_columns_refused, names_refused, permission_names_refused, mask_names_refused}
-use Rattle.lb_names.specs.Agreeing.{Agree, AgreeOn}
+use Rattle.lb_names.specs.StatementMarks.{over, key_marks, marks_of_key, select_marks, order_sight, from_tables, where_marks, assignment_marks, source_marks, marks_of, permission_marks, mask_marks}
+use Rattle.lb_names.specs.Mentions.{Mentions, table, in_cond, in_expr, in_query, in_key, in_select, in_where, in_assignment, in_source, in_stmt}
+use Rattle.lb_names.specs.Scopes.{Catalogue, is_some, listed, field_named, found_in, qualified, is_shared, unqualified, resolve}
+use Rattle.lb_names.specs.Passes.{first, is_taken, refusal_if, item_refusal, unresolved, unless_known, column_refusal, call_refusal, call_refusal_of, fault, text_refusal, text_refusal_of, passes}
+use Rattle.lb_names.specs.Statements.{targets_refused, written_refused, target_columns_refused, names_refused, permission_names_refused, mask_names_refused}
+use Rattle.lb_names.specs.Agreeing.{AgreeOn}
 use Rattle.lb_names.proofs.Sighted as s
 
 module _ (C D : Catalogue) where

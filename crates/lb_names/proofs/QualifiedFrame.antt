@@ -1,5 +1,5 @@
 -- The qualified form depends on the catalogue by what is mentioned alone.
-use Rattle.std.proofs.Common.{◌≡◌, List, ◌∷◌}
+use Rattle.std.proofs.Common.{◌≡◌, ◌∷◌}
 use Rattle.lb_tree.specs.declared.query.Tab.{Tab}
 use Rattle.lb_tree.specs.declared.query.Cond.{Cond}
 use Rattle.lb_tree.specs.declared.query.Expr.{Expr}

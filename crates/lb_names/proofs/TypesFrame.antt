@@ -3,7 +3,6 @@ use Rattle.std.proofs.Common.{ℕ, ◌≡◌, refl, ap, sym, subst, ◌∙◌, L
 use Rattle.std.specs.Prelude.{ℤ}
 use Rattle.std.specs.List.{list_any, flat_map}
 use Rattle.std.specs.Str.{bytes_eq}
-use Rattle.lb_tree.specs.declared.query.Atom.{Atom}
 use Rattle.lb_tree.specs.declared.query.Atom.TheVariants as atoms
 use Rattle.lb_tree.specs.declared.query.Tab.{Tab}
 use Rattle.lb_tree.specs.declared.query.Cond.{Cond}
@@ -23,16 +22,15 @@ use Rattle.lb_stmt.specs.declared.write.Stmt.{Stmt}
 use Rattle.lb_stmt.specs.declared.write.Stmt.TheVariants as stmts
 use Rattle.lb_names.specs.Sights.{Name}
 use Rattle.lb_names.specs.SortNames.{or_else, if_named, named, maybe_named, bare_name, meant, position}
-use Rattle.lb_names.specs.StatementMarks.{over, target_of}
-use Rattle.lb_names.specs.Mentions.{Mentions, table, all_of, if_given, naming, naming_steps, in_cond, in_expr, in_query, in_key, in_select, in_where, in_assignment, in_source, in_stmt}
+use Rattle.lb_names.specs.Mentions.{table, all_of, if_given, naming, naming_steps, in_cond, in_expr, in_query, in_key, in_select, in_where, in_assignment, in_source, in_stmt}
 use Rattle.lb_names.specs.Kinds.{Kind, is_label, takes}
 use Rattle.lb_names.specs.Scopes.{Field, Catalogue, listed, resolve}
-use Rattle.lb_names.specs.Typed.{Typed, ◌>>=◌, only_if}
+use Rattle.lb_names.specs.Typed.{◌>>=◌, only_if}
 use Rattle.lb_names.specs.Places.{Place, outermost}
 use Rattle.lb_names.specs.Carriers.{Role}
 use Rattle.lb_names.specs.Typing.{says, means, answers}
-use Rattle.lb_names.specs.OrderTyping.{is_own_column, is_in_star, is_item, is_selected, expression_key, item_key, output_key, output_at, other_key, key_typed, keys_typed, is_total_key, outermost_role, order_place, select_typed}
-use Rattle.lb_names.specs.Statements.{broken, over_place, set_place, values_place, stored_place, given, kind_wanted, kinds_wanted, is_taken_by, values_typed, first_broken, row_typed, rows_typed, source_types_refused, kinds_given, assignments_typed, where_typed, types_refused, permission_types_refused, mask_takes, mask_types_refused}
+use Rattle.lb_names.specs.OrderTyping.{is_own_column, is_in_star, is_item, is_selected, item_key, output_key, output_at, other_key, key_typed, keys_typed, is_total_key, outermost_role, order_place, select_typed}
+use Rattle.lb_names.specs.Statements.{broken, over_place, set_place, values_place, stored_place, given, kind_wanted, kinds_wanted, is_taken_by, values_typed, first_broken, rows_typed, source_types_refused, kinds_given, assignments_typed, where_typed, types_refused, permission_types_refused, mask_takes, mask_types_refused}
 use Rattle.lb_names.specs.Agreeing.{AgreeOn}
 use Rattle.lb_names.proofs.NamesFrame.{resolve_same}
 use Rattle.lb_names.proofs.Mentioned.{n_item, n_expr, n_chain, n_cond}

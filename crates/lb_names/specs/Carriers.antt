@@ -18,6 +18,7 @@ pub record Means : Type 0 where
   -- it has no arithmetic and no subquery
   pub sure : Bool
 
+-- a condition: whether it has types at a place, by the number of its node
 pub record Says : Type 0 where
   pub marks : Sight → Marks
   pub typed : Place → ℕ → Typed (Unit {0})
@@ -42,20 +43,24 @@ pub record Shows : Type 0 where
   pub width : List Seen → ℕ
   pub total : Bool
 
+-- a join: its table, and its ON condition
 pub record Joins : Type 0 where
   pub marked : JoinMarks
   -- its ON condition at the place of that
   pub typed : Place → ℕ → Typed (Unit {0})
 
+-- a chain: its first table, and the joins after it
 pub record Chains : Type 0 where
   pub first : Tab
   pub joins : List Joins
 
+-- WHEN condition THEN result
 pub record Arms : Type 0 where
   pub marks : Sight → Marks
   pub when : Says
   pub result : Means
 
+-- WHEN value THEN result
 pub record Choices : Type 0 where
   pub marks : Sight → Marks
   pub when : Means
@@ -78,9 +83,11 @@ pub record Answers : Type 0 where
   -- where its select list and its ORDER BY stand
   pub shown : Role → Place → Place
 
+-- what typing gives of each kind of node
 abbrev pub typing : Kinds
 typing = record { cond = Says; expr = Means; item = Shows; join = Joins; arm = Arms; chain = Chains; choice = Choices; query = Answers; signed = Means }
 
+-- the names in a chain
 abbrev pub chain_marked : Chains → ChainMarks
 chain_marked ch = record { first = ch.first; joins = map (λ j. j.marked) ch.joins }
 

@@ -20,6 +20,7 @@ of_plain at x = only_if (is_plain x.0) at (tt, x.1)
 abbrev pub compared : Comparison → ℕ → Common × ℕ → Typed (Unit {0})
 compared by at x = only_if (is_compared_by by x.0) at (tt, x.1)
 
+-- the kind of the first output
 abbrev pub first_kind : List Kind → Kind
 first_kind [] = null
 first_kind (k ∷ ks) = k
@@ -28,18 +29,23 @@ first_kind (k ∷ ks) = k
 abbrev pub query_with : Kind → Answers → Place → ℕ → Typed Common
 query_with k q P n = q.kinds (subquery true) P n >>= λ x. Ok (both k (first_kind x.0), x.1)
 
+-- the kind that an expression and a query's one output have in common
 abbrev pub kind_with_query : Means → Answers → Place → ℕ → Typed Common
 kind_with_query m q P n = m.kind P n >>= λ x. query_with x.0 q P x.1
 
+-- a comparison of two expressions
 unfoldable pub compare_typed : Comparison → Means → Means → Place → ℕ → Typed (Unit {0})
 compare_typed by m n P at = kind_of_two m n P (next at) >>= compared by at
 
+-- IN with a list: all have one kind
 unfoldable pub in_list_typed : Means → List Means → Place → ℕ → Typed (Unit {0})
 in_list_typed m ms P at = kind_with_all m ms P (next at) >>= of_plain at
 
+-- BETWEEN: all three have one kind
 unfoldable pub between_typed : Means → Means → Means → Place → ℕ → Typed (Unit {0})
 between_typed m low high P at = kind_of_three m low high P (next at) >>= of_plain at
 
+-- the types of a condition by those of its parts; AND, OR and NOT ask for nothing but their parts
 abbrev pub cond_typed : Layer typing layers.Cond-F → Place → ℕ → Typed (Unit {0})
 cond_typed (layers.Cond-F.Or cs) P at = all_typed cs P (next at)
 cond_typed (layers.Cond-F.And cs) P at = all_typed cs P (next at)
@@ -78,5 +84,6 @@ cond_sure (layers.Cond-F.InQuery m q) = false
 cond_sure (layers.Cond-F.InList m ms) = m.sure && list_all is_sure ms
 cond_sure (layers.Cond-F.Between m low high) = m.sure && (low.sure && high.sure)
 
+-- a condition, by its parts
 abbrev pub cond_step : Layer typing layers.Cond-F → Says
 cond_step x = record { marks = marks_in_cond typing typing_marks x; typed = cond_typed x; total = cond_total x; sure = cond_sure x }

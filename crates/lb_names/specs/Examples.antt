@@ -1,5 +1,5 @@
 -- Statements, permissions and masks whose names or types are refused, or not, written out as trees.
-use Rattle.std.specs.Prelude.{true, false, List, [], ◌∷◌, Option, Some, None}
+use Rattle.std.specs.Prelude.{true, false, List, [], ◌∷◌, Some, None}
 use Rattle.lb_tree.specs.declared.query.Aggregate.TheVariants as aggregates
 use Rattle.lb_tree.specs.declared.query.Function.TheVariants as functions
 use Rattle.lb_tree.specs.declared.query.Atom.TheVariants as atoms
@@ -10,6 +10,7 @@ use Rattle.lb_tree.specs.declared.query.Cond.TheVariants as conds
 use Rattle.lb_tree.specs.declared.query.Item.TheVariants as items
 use Rattle.lb_tree.specs.declared.query.Join.TheVariants as joins
 use Rattle.lb_tree.specs.declared.query.Cond.TheViews.{roll-Query, roll-Arm}
+use Rattle.lb_tree.specs.declared.query.Select.{Select}
 use Rattle.lb_stmt.specs.declared.write.Stmt.{Stmt}
 use Rattle.lb_stmt.specs.declared.write.Stmt.TheVariants as stmts
 use Rattle.lb_stmt.specs.declared.write.InsertSource.TheVariants as sources
@@ -81,17 +82,21 @@ group_of_outer_column = select (grouped (show (col a) ∷ []) (from (table k)) N
 abbrev pub too_many_values : Stmt
 too_many_values = insert k None (sources.Rows ((one ∷ word ∷ []) ∷ (one ∷ plus (int 2) word ∷ int 3 ∷ []) ∷ (word ∷ one ∷ []) ∷ []))
 
--- INSERT INTO W (A) SELECT A, A FROM K ORDER BY 'x' + 1: the query, before its ORDER BY
+-- SELECT A, A FROM K ORDER BY LENGTH(1)
+abbrev pub two_outputs : Select
+two_outputs = ordered (query (show (col a) ∷ show (col a) ∷ []) (from (table k)) None) (key (exprs.Apply functions.Length one) ∷ [])
+
+-- INSERT INTO W (A) SELECT A, A FROM K ORDER BY LENGTH(1): the query, before its ORDER BY
 abbrev pub too_many_outputs : Stmt
-too_many_outputs = insert w (Some (a ∷ [])) (sources.Query (ordered (query (show (col a) ∷ show (col a) ∷ []) (from (table k)) None) (key (plus word one) ∷ [])))
+too_many_outputs = insert w (Some (a ∷ [])) (sources.Query two_outputs)
 
 -- SELECT K.*, L FROM K, T ORDER BY 3: a label doesn't stand in ORDER BY
-abbrev pub label_key : Stmt
-label_key = stmts.Select (ordered (query (items.AllOf k ∷ show (col l) ∷ []) (chain (table k) [] ∷ chain (table t) [] ∷ []) None) (key (int 3) ∷ []))
+abbrev pub by_a_label : Select
+by_a_label = ordered (query (items.AllOf k ∷ show (col l) ∷ []) (chain (table k) [] ∷ chain (table t) [] ∷ []) None) (key (int 3) ∷ [])
 
--- SELECT DISTINCT U.*, CASE WHEN U.A = 1 THEN 1 END FROM U ORDER BY CASE WHEN A = 1 THEN 1 END, D, LENGTH(B): the last key is no select item
-abbrev pub distinct_keys : Stmt
-distinct_keys = stmts.Select (ordered (roll-Query (record { distinct = true; items = items.AllOf u ∷ show (one_where (equals (of u a) one)) ∷ []; from = from (table u); filter = None; group = []; having = None })) (key (one_where (equals (col a) one)) ∷ key (col d) ∷ key (exprs.Apply functions.Length (col b)) ∷ []))
+-- SELECT DISTINCT W.* FROM W, K ORDER BY B: the key is no select item
+abbrev pub by_another_column : Select
+by_another_column = ordered (roll-Query (record { distinct = true; items = items.AllOf w ∷ []; from = chain (table w) [] ∷ chain (table k) [] ∷ []; filter = None; group = []; having = None })) (key (col b) ∷ [])
 
 -- permission on K: A IN (SELECT * FROM W)
 abbrev pub stored_star : Cond

@@ -15,7 +15,7 @@ use Rattle.lb_names.specs.Scopes.{Catalogue, Resolved, resolve, spot_of}
 use Rattle.lb_names.specs.Passes.{all_own}
 use Rattle.lb_names.specs.Typed.{Typed, next, ◌>>=◌, only_if, one_of}
 use Rattle.lb_names.specs.Places.{Place, in_aggregate, is_free}
-use Rattle.lb_names.specs.Carriers.{Means, Says, Arms, Choices, typing, typing_marks}
+use Rattle.lb_names.specs.Carriers.{Means, Arms, Choices, typing, typing_marks}
 use Rattle.lb_names.specs.Parts.{kind_of_all, kind_with, kind_of_any, kind_of_results, kinds_of_match}
 
 -- the node of that number has the kind that its parts have in common
@@ -33,6 +33,7 @@ abbrev pub kind_found : Place → ℕ → Resolved → Typed Kind
 kind_found P at (Ok x) = only_if (is_free P (spot_of x.item x.field.name)) at (x.field.kind, next at)
 kind_found P at (Err n) = Err at
 
+-- it is a label of that policy
 abbrev pub is_label_of : Name → Kind → Bool
 is_label_of p (label q) = bytes_eq p q
 is_label_of p _ = false
@@ -53,12 +54,14 @@ atom_kind C (atoms.SecLabel p t) P at = Ok (label p, next at)
 atom_kind C (atoms.SecLabelByName p l) P at = Ok (label p, next at)
 atom_kind C (atoms.SecLabelToChar p c) P at = kind_found P (next at) (resolve C P.sight.seen c) >>= λ x. only_if (is_label_of p x.0) at (text, x.1)
 
+-- it is COUNT(*)
 abbrev pub counts_rows : Atom → Bool
 counts_rows atoms.CountRows = true
 counts_rows _ = false
 
 -- ---- nodes with parts
 
+-- CASE: its results have one kind in common
 unfoldable pub case_kind : List Arms → Option Means → Place → ℕ → Typed Kind
 case_kind arms otherwise P at = kind_of_results arms otherwise P (next at) >>= plain_kind at
 
@@ -66,9 +69,11 @@ case_kind arms otherwise P at = kind_of_results arms otherwise P (next at) >>= p
 abbrev pub plain_results : ℕ → Common → Common × ℕ → Typed Kind
 plain_results at operands y = if is_plain operands then plain_kind at y else Err at
 
+-- its ELSE, after the kinds of its operands and results
 abbrev pub match_kind : ℕ → Option Means → Place → (Common × Common) × ℕ → Typed Kind
 match_kind at otherwise P x = kind_of_any x.0.1 otherwise P x.1 >>= plain_results at x.0.0
 
+-- CASE with an operand
 unfoldable pub match_kind_of : Means → List Choices → Option Means → Place → ℕ → Typed Kind
 match_kind_of m choices otherwise P at = kinds_of_match m choices P (next at) >>= match_kind at otherwise P
 
@@ -76,18 +81,23 @@ match_kind_of m choices otherwise P at = kinds_of_match m choices P (next at) >>
 abbrev pub substr_kind : ℕ → Kind → Common × ℕ → Typed Kind
 substr_kind at k z = only_if (takes text k && is_one z.0) at (text, z.1)
 
+-- start and length of SUBSTR
 unfoldable pub number_kind : Means → Option Means → Place → ℕ → Typed Common
 number_kind from n P i = kind_with (one integer) from P i >>= λ x. kind_of_any x.0 n P x.1
 
+-- SUBSTR after its text
 abbrev pub substr_rest : ℕ → Means → Option Means → Place → Kind × ℕ → Typed Kind
 substr_rest at from n P x = number_kind from n P x.1 >>= substr_kind at x.0
 
+-- SUBSTR
 unfoldable pub substr_kind_of : Means → Means → Option Means → Place → ℕ → Typed Kind
 substr_kind_of m from n P at = m.kind P (next at) >>= substr_rest at from n P
 
+-- a function of an argument of that kind gives an integer
 abbrev pub function_kind : Function → ℕ → Kind × ℕ → Typed Kind
 function_kind f at x = only_if (takes (argument f) x.0) at (integer, x.1)
 
+-- LENGTH, YEAR, MONTH, DAY
 unfoldable pub apply_kind : Function → Means → Place → ℕ → Typed Kind
 apply_kind f m P at = m.kind P (next at) >>= function_kind f at
 
@@ -95,9 +105,11 @@ apply_kind f m P at = m.kind P (next at) >>= function_kind f at
 abbrev pub is_total_of : Catalogue → Means → Place → Bool
 is_total_of C m P = P.aggregates && all_own C P.sight.level (m.marks P.sight)
 
+-- an aggregate whose argument has that kind
 abbrev pub aggregate_kind : Catalogue → Aggregate → Means → Place → ℕ → Kind × ℕ → Typed Kind
 aggregate_kind C op m P at x = if is_total_of C m P then one_of at x.1 (aggregated op x.0) else Err at
 
+-- the kind of an expression by those of its parts: `+ -`, `*` and SUM want integers, `||` texts
 abbrev pub expr_kind : Catalogue → Layer typing layers.Expr-F → Place → ℕ → Typed Kind
 expr_kind C (layers.Expr-F.Atom a) P at = atom_kind C a P at
 expr_kind C (layers.Expr-F.Sum ms) P at = kind_of_all (one integer) ms P (next at) >>= one_kind at
@@ -112,17 +124,21 @@ expr_kind C (layers.Expr-F.Coalesce ms) P at = kind_of_all (one null) ms P (next
 
 -- ---- aggregates and arithmetic
 
+-- a part that may be missing is there and passes the test
 abbrev pub if_any : {A : Type 0} → (A → Bool) → Option A → Bool
 if_any test None = false
 if_any test (Some x) = test x
 
+-- a part that may be missing is missing or passes the test
 abbrev pub unless_any : {A : Type 0} → (A → Bool) → Option A → Bool
 unless_any test None = true
 unless_any test (Some x) = test x
 
+-- it has an aggregate of its own query
 abbrev pub is_total : Means → Bool
 is_total m = m.total
 
+-- it has no arithmetic and no subquery
 abbrev pub is_sure : Means → Bool
 is_sure m = m.sure
 
@@ -152,12 +168,15 @@ expr_sure (layers.Expr-F.Substr m from n) = m.sure && (from.sure && unless_any i
 expr_sure (layers.Expr-F.Apply f m) = m.sure
 expr_sure (layers.Expr-F.Coalesce ms) = list_all is_sure ms
 
+-- an expression, by its parts
 abbrev pub expr_step : Catalogue → Layer typing layers.Expr-F → Means
 expr_step C x = record { marks = marks_in_expr typing typing_marks x; kind = expr_kind C x; total = expr_total x; sure = expr_sure x }
 
+-- an arm of CASE, by its parts
 abbrev pub arm_step : Layer typing layers.Arm-F → Arms
 arm_step x = record { marks = marks_in_arm typing typing_marks x; when = x.when; result = x.result }
 
+-- an arm of CASE with an operand, by its parts
 abbrev pub choice_step : Layer typing layers.Choice-F → Choices
 choice_step x = record { marks = marks_in_choice typing typing_marks x; when = x.when; result = x.result }
 

@@ -1,5 +1,5 @@
 -- Kinds of values, and which go together.
-use Rattle.std.specs.Prelude.{ℕ, Bool, true, false, if◌then◌else◌, List}
+use Rattle.std.specs.Prelude.{Bool, true, false, if◌then◌else◌}
 use Rattle.std.specs.Str.{bytes_eq}
 use Rattle.lb_tree.specs.declared.query.Comparison.{Comparison}
 use Rattle.lb_tree.specs.declared.query.Comparison.TheVariants as comparisons
@@ -25,10 +25,12 @@ pub data Common : Type 0 where
   -- two of them differ
   differ : Common
 
+-- there is one
 abbrev pub is_one : Common → Bool
 is_one (one k) = true
 is_one differ = false
 
+-- it is a label
 abbrev pub is_label : Kind → Bool
 is_label (label p) = true
 is_label _ = false
@@ -61,6 +63,7 @@ is_plain (one text) = true
 is_plain (one date) = true
 is_plain _ = false
 
+-- it is = or <>
 abbrev pub is_equality : Comparison → Bool
 is_equality comparisons.Equal = true
 is_equality comparisons.NotEqual = true

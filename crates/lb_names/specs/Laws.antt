@@ -1,5 +1,5 @@
 -- What is proved of these definitions.
-use Rattle.std.specs.Prelude.{◌≡◌, ◌∷◌}
+use Rattle.std.specs.Prelude.{◌≡◌, true, ◌∷◌, None}
 use Rattle.lb_tree.specs.declared.query.Tab.{Tab}
 use Rattle.lb_tree.specs.declared.query.Cond.{Cond}
 use Rattle.lb_tree.specs.declared.query.Expr.{Expr}
@@ -10,8 +10,10 @@ use Rattle.lb_names.specs.Marks.{cond_marks, expr_marks, query_marks}
 use Rattle.lb_names.specs.StatementMarks.{marks_of}
 use Rattle.lb_names.specs.Mentions.{table, in_cond, in_expr, in_query, in_stmt, mentions}
 use Rattle.lb_names.specs.Scopes.{Catalogue}
+use Rattle.lb_names.specs.Typing.{says, means, answers}
 use Rattle.lb_names.specs.Statements.{names_refused, types_refused, permission_names_refused, permission_types_refused, permission_qualified, mask_names_refused, mask_types_refused, mask_qualified}
-use Rattle.lb_names.specs.Agreeing.{AgreeOn}
+use Rattle.lb_names.specs.Qualified.{are_qualified, are_qualified_in}
+use Rattle.lb_names.specs.Agreeing.{AgreeOn, AreThere}
 
 -- what is mentioned is what the marks mention, in their order, wherever a part stands
 pub record MentionsAreMarked : Type 0 where
@@ -19,6 +21,12 @@ pub record MentionsAreMarked : Type 0 where
   pub in_expr : (e : Expr) (v : Sight) → mentions (expr_marks e v) ≡ in_expr e
   pub in_query : (q : Query) (v : Sight) → mentions (query_marks q v) ≡ in_query q
   pub in_stmt : (s : Stmt) → mentions (marks_of s) ≡ in_stmt s
+
+-- the names that typing sees in a tree are its marks, in every catalogue
+pub record TypingCarriesMarks (C : Catalogue) : Type 0 where
+  pub cond : (c : Cond) (v : Sight) → (says C c).marks v ≡ cond_marks c v
+  pub expr : (e : Expr) (v : Sight) → (means C e).marks v ≡ expr_marks e v
+  pub query : (q : Query) (v : Sight) → (answers C q).marks v ≡ query_marks q v
 
 -- catalogues that agree on what a statement mentions, or a permission or mask with its table, refuse the same for names
 pub record NamesHaveAFrame (C D : Catalogue) : Type 0 where
@@ -36,3 +44,19 @@ pub record TypesHaveAFrame (C D : Catalogue) : Type 0 where
 pub record FormsHaveAFrame (C D : Catalogue) : Type 0 where
   pub permission : (tab : Tab) (c : Cond) → AgreeOn C D (table tab.table ∷ in_cond c) → permission_qualified C tab c ≡ permission_qualified D tab c
   pub mask : (tab : Tab) (e : Expr) → AgreeOn C D (table tab.table ∷ in_expr e) → mask_qualified C tab e ≡ mask_qualified D tab e
+
+-- the qualified form mentions what is mentioned as it is written
+pub record FormsKeepMentions (C : Catalogue) : Type 0 where
+  pub permission : (tab : Tab) (c : Cond) → in_cond (permission_qualified C tab c) ≡ in_cond c
+  pub mask : (tab : Tab) (e : Expr) → in_expr (mask_qualified C tab e) ≡ in_expr e
+
+-- what is mentioned is there, where the names are not refused
+pub record MentionsAreThere (C : Catalogue) : Type 0 where
+  pub stmt : (s : Stmt) → names_refused C s ≡ None → AreThere C (in_stmt s)
+  pub permission : (tab : Tab) (c : Cond) → permission_names_refused C tab c ≡ None → AreThere C (in_cond c)
+  pub mask : (tab : Tab) (e : Expr) → mask_names_refused C tab e ≡ None → AreThere C (in_expr e)
+
+-- each column of the qualified form has a correlation name, where the names are not refused
+pub record FormsAreQualified (C : Catalogue) : Type 0 where
+  pub permission : (tab : Tab) (c : Cond) → permission_names_refused C tab c ≡ None → are_qualified (permission_qualified C tab c) ≡ true
+  pub mask : (tab : Tab) (e : Expr) → mask_names_refused C tab e ≡ None → are_qualified_in (mask_qualified C tab e) ≡ true

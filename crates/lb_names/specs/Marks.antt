@@ -1,5 +1,5 @@
 -- The names that a query, a condition or an expression writes, in text order, each with what is in sight of it. No catalogue is asked.
-use Rattle.std.specs.Prelude.{ℕ, List, [], ◌∷◌, ◌++◌, map, Option, None, Some}
+use Rattle.std.specs.Prelude.{List, [], ◌∷◌, ◌++◌, map, Option, None, Some}
 use Rattle.std.specs.List.{flat_map}
 use Rattle.lb_tree.specs.declared.query.Atom.{Atom}
 use Rattle.lb_tree.specs.declared.query.Atom.TheVariants as atoms
@@ -13,6 +13,7 @@ use Rattle.lb_tree.specs.Folds.{Kinds, Layer, Steps, cond_of, expr_of, query_of}
 use Rattle.lb_names.specs.declared.place.Seen.{Seen}
 use Rattle.lb_names.specs.Sights.{Name, correlation, calls_of, items_in, Sight, inside, inside_on}
 
+-- a name that is written, or the beginning of a query
 pub data Mark : Type 0 where
   -- a query with these FROM items begins, or a write with this target
   enter : List Seen → Mark
@@ -25,6 +26,7 @@ pub data Mark : Type 0 where
   -- a call that names a policy
   call : Atom → Mark
 
+-- marks in text order
 abbrev pub Marks : Type 0
 Marks = List Mark
 
@@ -75,6 +77,7 @@ atom_marks _ v = []
 
 -- ---- FROM
 
+-- the tables of a chain
 abbrev pub tables_of_chain : ChainMarks → List Tab
 tables_of_chain chain = chain.first ∷ map (λ j. j.tab) chain.joins
 
@@ -95,6 +98,7 @@ chains_marks outer all before (ch ∷ chains) = item before outer.around ch.firs
 -- ---- the marks of a node, by those of its parts
 
 module _ (K : Kinds) (M : Marking K) where
+  -- of a condition
   abbrev pub marks_in_cond : Layer K layers.Cond-F → Sight → Marks
   marks_in_cond (layers.Cond-F.Or xs) v = of_each M.cond xs v
   marks_in_cond (layers.Cond-F.And xs) v = of_each M.cond xs v
@@ -107,6 +111,7 @@ module _ (K : Kinds) (M : Marking K) where
   marks_in_cond (layers.Cond-F.InList a xs) v = M.expr a v ++ of_each M.expr xs v
   marks_in_cond (layers.Cond-F.Between a low high) v = M.expr a v ++ (M.expr low v ++ M.expr high v)
 
+  -- of an expression
   abbrev pub marks_in_expr : Layer K layers.Expr-F → Sight → Marks
   marks_in_expr (layers.Expr-F.Atom a) v = atom_marks a v
   marks_in_expr (layers.Expr-F.Sum xs) v = of_each M.signed xs v
@@ -119,25 +124,31 @@ module _ (K : Kinds) (M : Marking K) where
   marks_in_expr (layers.Expr-F.Apply f x) v = M.expr x v
   marks_in_expr (layers.Expr-F.Coalesce xs) v = of_each M.expr xs v
 
+  -- of an item of a select list
   abbrev pub marks_in_item : Layer K layers.Item-F → Sight → Marks
   marks_in_item layers.Item-F.Everything v = star v.own None ∷ []
   marks_in_item (layers.Item-F.AllOf x) v = star v.own (Some x) ∷ []
   marks_in_item (layers.Item-F.Value x name) v = M.expr x v
 
+  -- of a join
   abbrev pub marks_in_join : Layer K layers.Join-F → JoinMarks
   marks_in_join (layers.Join-F.Inner tab on) = record { tab = tab; on = M.cond on }
   marks_in_join (layers.Join-F.Left tab on) = record { tab = tab; on = M.cond on }
   marks_in_join (layers.Join-F.Cross tab) = record { tab = tab; on = λ v. [] }
 
+  -- of WHEN condition THEN result
   abbrev pub marks_in_arm : Layer K layers.Arm-F → Sight → Marks
   marks_in_arm x v = M.cond x.when v ++ M.expr x.result v
 
+  -- of WHEN value THEN result
   abbrev pub marks_in_choice : Layer K layers.Choice-F → Sight → Marks
   marks_in_choice x v = M.expr x.when v ++ M.expr x.result v
 
+  -- of a chain
   abbrev pub marks_in_chain : Layer K layers.Chain-F → ChainMarks
   marks_in_chain x = record { first = x.first; joins = map M.join x.joins }
 
+  -- of a part of a sum
   abbrev pub marks_in_signed : Layer K layers.Signed-F → Sight → Marks
   marks_in_signed x v = M.expr x.part v
 
@@ -145,6 +156,7 @@ module _ (K : Kinds) (M : Marking K) where
   abbrev pub tables_from : Layer K layers.Query-F → List Tab
   tables_from q = tables_of (map M.chain q.from)
 
+  -- of a query: its beginning, select list, FROM, WHERE, GROUP BY, HAVING
   abbrev pub marks_in_query : Layer K layers.Query-F → Sight → Marks
   marks_in_query q outer =
       enter (items_in outer.seen (tables_from q))
@@ -156,12 +168,15 @@ module _ (K : Kinds) (M : Marking K) where
 
 -- ---- whole trees
 
+-- each kind of node gives its marks alone
 abbrev pub marked : Kinds
 marked = record { cond = Marked; expr = Marked; item = Marked; join = JoinMarks; arm = Marked; chain = ChainMarks; choice = Marked; query = Marked; signed = Marked }
 
+-- and so do its parts
 abbrev pub marking : Marking marked
 marking = record { cond = λ x. x.marks; expr = λ x. x.marks; item = λ x. x.marks; join = λ j. j; arm = λ x. x.marks; chain = λ c. c; choice = λ x. x.marks; query = λ x. x.marks; signed = λ x. x.marks }
 
+-- the marks of each kind of node
 abbrev pub mark_steps : Steps marked
 mark_steps = record {
   cond = λ x. record { marks = marks_in_cond marked marking x };
@@ -179,8 +194,10 @@ mark_steps = record {
 unfoldable pub cond_marks : Cond → Sight → Marks
 cond_marks c v = (cond_of marked mark_steps c).marks v
 
+-- the names in an expression
 unfoldable pub expr_marks : Expr → Sight → Marks
 expr_marks e v = (expr_of marked mark_steps e).marks v
 
+-- the names in a query
 unfoldable pub query_marks : Query → Sight → Marks
 query_marks q v = (query_of marked mark_steps q).marks v

@@ -19,12 +19,15 @@ abbrev pub kind_of_any : Common → Option Means → Place → ℕ → Typed Com
 kind_of_any so_far None P n = Ok (so_far, n)
 kind_of_any so_far (Some m) P n = kind_with so_far m P n
 
+-- the kind that two parts have in common
 unfoldable pub kind_of_two : Means → Means → Place → ℕ → Typed Common
 kind_of_two m k P n = m.kind P n >>= λ x. kind_with (one x.0) k P x.1
 
+-- the kind that three parts have in common
 unfoldable pub kind_of_three : Means → Means → Means → Place → ℕ → Typed Common
 kind_of_three m k l P n = kind_of_two m k P n >>= λ x. kind_with x.0 l P x.1
 
+-- the kind that a part and a list have in common
 unfoldable pub kind_with_all : Means → List Means → Place → ℕ → Typed Common
 kind_with_all m ms P n = m.kind P n >>= λ x. kind_of_all (one x.0) ms P x.1
 
@@ -34,6 +37,7 @@ kind_with_all m ms P n = m.kind P n >>= λ x. kind_of_all (one x.0) ms P x.1
 unfoldable pub kind_of_arm : Arms → Place → ℕ → Typed Kind
 kind_of_arm arm P n = arm.when.typed P n >>= λ x. arm.result.kind P x.1
 
+-- the kind so far with those of the results of these arms
 abbrev pub kind_of_arms : Common → List Arms → Place → ℕ → Typed Common
 kind_of_arms so_far [] P n = Ok (so_far, n)
 kind_of_arms so_far (arm ∷ arms) P n = kind_of_arm arm P n >>= λ x. kind_of_arms (with_kind so_far x.0) arms P x.1

@@ -1,5 +1,5 @@
 -- The passes over the names of a text: tables and correlation names, columns, policies and labels of calls, label texts.
-use Rattle.std.specs.Prelude.{ℕ, Bool, true, false, ◌&&◌, ◌||◌, ◌==◌, if◌then◌else◌, List, [], ◌∷◌, map, Option, Some, None, Ok, Err}
+use Rattle.std.specs.Prelude.{ℕ, Bool, true, false, ◌&&◌, ◌||◌, ◌==◌, if◌then◌else◌, List, [], ◌∷◌, Option, Some, None, Ok, Err}
 use Rattle.std.specs.List.{list_any, list_all}
 use Rattle.std.specs.Str.{bytes_eq}
 use Rattle.lb_tree.specs.declared.query.Atom.{Atom}
@@ -8,10 +8,11 @@ use Rattle.lb_names.specs.declared.place.Seen.{Seen}
 use Rattle.lb_names.specs.declared.refused.Refused.{Refused}
 use Rattle.lb_names.specs.declared.refused.Refused.TheVariants.{Unknown, Exists, BadLabel}
 use Rattle.lb_names.specs.Sights.{Name, correlation}
-use Rattle.lb_names.specs.Marks.{Mark, enter, item, column, star, call, Marks}
+use Rattle.lb_names.specs.Marks.{Mark, item, column, star, call, Marks}
 use Rattle.lb_names.specs.SortNames.{or_else}
 use Rattle.lb_names.specs.Scopes.{Catalogue, is_some, Resolved, resolve}
 
+-- the name is among the names
 abbrev pub holds : Name → List Name → Bool
 holds n names = list_any (bytes_eq n) names
 
@@ -20,9 +21,11 @@ abbrev pub first : {A B : Type 0} → (A → Option B) → List A → Option B
 first f [] = None
 first f (x ∷ xs) = or_else (f x) (first f xs)
 
+-- the refusal, where the test holds
 abbrev pub refusal_if : Bool → Refused → Option Refused
 refusal_if b r = if b then Some r else None
 
+-- the name is unknown, unless the test holds
 abbrev pub unless_known : Bool → Name → Option Refused
 unless_known b n = if b then None else Some (Unknown n)
 
@@ -39,6 +42,7 @@ item_refusal C stored _ = None
 
 -- ---- columns
 
+-- the refusal of a column's name
 abbrev pub unresolved : Resolved → Option Refused
 unresolved (Ok x) = None
 unresolved (Err n) = Some (Unknown n)
@@ -55,6 +59,7 @@ column_refusal C _ = None
 
 -- ---- calls
 
+-- the refusal of a call
 abbrev pub call_refusal_of : Catalogue → Atom → Option Refused
 call_refusal_of C (atoms.SecLabel p t) = unless_known (C.has_policy p) p
 call_refusal_of C (atoms.SecLabelByName p l) = if C.has_policy p then unless_known (C.has_label p l) l else Some (Unknown p)
@@ -66,10 +71,12 @@ abbrev pub call_refusal : Catalogue → Mark → Option Refused
 call_refusal C (call a) = call_refusal_of C a
 call_refusal C _ = None
 
+-- the refusal of a label text
 abbrev pub fault : Option ℕ → Option Refused
 fault None = None
 fault (Some at) = Some (BadLabel at)
 
+-- the refusal of the text in a call
 abbrev pub text_refusal_of : Catalogue → Atom → Option Refused
 text_refusal_of C (atoms.SecLabel p t) = fault (C.label_fault p t)
 text_refusal_of C _ = None
@@ -90,6 +97,7 @@ passes C stored marks targets =
 
 -- ---- an aggregate names columns of its own query alone
 
+-- the column belongs to the query of that level
 abbrev pub is_at : ℕ → Resolved → Bool
 is_at level (Ok x) = x.item.level == level
 is_at level (Err n) = false
@@ -100,5 +108,6 @@ is_own C level (column seen c) = is_at level (resolve C seen c)
 is_own C level (star items x) = false
 is_own C level _ = true
 
+-- all columns belong to the query of that level
 abbrev pub all_own : Catalogue → ℕ → Marks → Bool
 all_own C level marks = list_all (is_own C level) marks

@@ -1,5 +1,5 @@
 -- Where an expression stands in a query, and what the place asks of it.
-use Rattle.std.specs.Prelude.{ℕ, Bool, true, false, not, ◌||◌, ◌==◌, List, []}
+use Rattle.std.specs.Prelude.{Bool, true, false, not, ◌||◌, ◌==◌, List, []}
 use Rattle.std.specs.List.{list_any, list_all}
 use Rattle.lb_tree.specs.declared.query.Tab.{Tab}
 use Rattle.lb_names.specs.declared.place.Seen.{Seen}
@@ -8,6 +8,7 @@ use Rattle.lb_names.specs.declared.place.Group.{Group}
 use Rattle.lb_names.specs.Sights.{Name, Sight, nothing, inside, inside_on}
 use Rattle.lb_names.specs.Scopes.{Catalogue, columns_of, spot_of, same_spot}
 
+-- a place in a statement
 pub record Place : Type 0 where
   -- what is in sight
   pub sight : Sight
@@ -48,6 +49,7 @@ shown_place P tabs groups = record P { sight = inside P.sight tabs; groups = gro
 
 -- ---- grouping columns
 
+-- a column of the group's query is one of its grouping columns
 abbrev pub is_in_group : Spot → Group → Bool
 is_in_group s g = not (g.level == s.level) || list_any (same_spot s) g.columns
 
@@ -59,5 +61,6 @@ is_free P s = P.within || list_all (is_in_group s) P.groups
 abbrev pub all_free_of : Place → Catalogue → Seen → Bool
 all_free_of P C s = list_all (λ f. is_free P (spot_of s f.name)) (columns_of C s.tab)
 
+-- all columns of these items may stand there
 abbrev pub all_free : Place → Catalogue → List Seen → Bool
 all_free P C items = list_all (all_free_of P C) items

@@ -1,5 +1,5 @@
 -- Trees of which each column has a correlation name, as stored ones have.
-use Rattle.std.specs.Prelude.{Bool, true, false, ◌&&◌, List, Option, Some, None}
+use Rattle.std.specs.Prelude.{Bool, true, ◌&&◌, List, Option, Some, None}
 use Rattle.std.specs.List.{list_all}
 use Rattle.lb_tree.specs.declared.query.Atom.{Atom}
 use Rattle.lb_tree.specs.declared.query.Atom.TheVariants as atoms
@@ -10,6 +10,7 @@ use Rattle.lb_tree.specs.declared.query.Cond.TheOpen as layers
 use Rattle.lb_tree.specs.Folds.{Kinds, Layer, Steps, cond_of, expr_of}
 use Rattle.lb_names.specs.Scopes.{is_some}
 
+-- the column is qualified
 abbrev pub has_correlation : Column → Bool
 has_correlation c = is_some c.correlation
 
@@ -19,6 +20,7 @@ is_qualified_atom (atoms.Column c) = has_correlation c
 is_qualified_atom (atoms.SecLabelToChar p c) = has_correlation c
 is_qualified_atom _ = true
 
+-- all parts
 abbrev pub all_of_them : List Bool → Bool
 all_of_them bs = list_all (λ b. b) bs
 
@@ -31,6 +33,7 @@ if_there (Some b) = b
 abbrev pub testing : Kinds
 testing = record { cond = Bool; expr = Bool; item = Bool; join = Bool; arm = Bool; chain = Bool; choice = Bool; query = Bool; signed = Bool }
 
+-- of a condition
 abbrev pub is_qualified_cond : Layer testing layers.Cond-F → Bool
 is_qualified_cond (layers.Cond-F.Or xs) = all_of_them xs
 is_qualified_cond (layers.Cond-F.And xs) = all_of_them xs
@@ -43,6 +46,7 @@ is_qualified_cond (layers.Cond-F.InQuery a q) = a && q
 is_qualified_cond (layers.Cond-F.InList a xs) = a && all_of_them xs
 is_qualified_cond (layers.Cond-F.Between a low high) = a && (low && high)
 
+-- of an expression
 abbrev pub is_qualified_expr : Layer testing layers.Expr-F → Bool
 is_qualified_expr (layers.Expr-F.Atom a) = is_qualified_atom a
 is_qualified_expr (layers.Expr-F.Sum xs) = all_of_them xs
@@ -55,11 +59,13 @@ is_qualified_expr (layers.Expr-F.Substr x from n) = x && (from && if_there n)
 is_qualified_expr (layers.Expr-F.Apply f x) = x
 is_qualified_expr (layers.Expr-F.Coalesce xs) = all_of_them xs
 
+-- of an item; `*` and `x.*` name no column
 abbrev pub is_qualified_item : Layer testing layers.Item-F → Bool
 is_qualified_item layers.Item-F.Everything = true
 is_qualified_item (layers.Item-F.AllOf x) = true
 is_qualified_item (layers.Item-F.Value x name) = x
 
+-- of a join
 abbrev pub is_qualified_join : Layer testing layers.Join-F → Bool
 is_qualified_join (layers.Join-F.Inner tab on) = on
 is_qualified_join (layers.Join-F.Left tab on) = on
@@ -69,6 +75,7 @@ is_qualified_join (layers.Join-F.Cross tab) = true
 abbrev pub is_qualified_query : Layer testing layers.Query-F → Bool
 is_qualified_query q = all_of_them q.items && (all_of_them q.from && (if_there q.filter && (list_all has_correlation q.group && if_there q.having)))
 
+-- of each kind of node
 abbrev pub qualified_steps : Steps testing
 qualified_steps = record {
   cond = is_qualified_cond;

@@ -1,5 +1,5 @@
 -- Expressions that are the same, their columns compared by what they mean. None with a subquery is the same as another.
-use Rattle.std.specs.Prelude.{ℕ, ℤ, Bool, true, false, not, ◌&&◌, ◌==◌, if◌then◌else◌, List, [], ◌∷◌, map, Option, Some, None, int_le}
+use Rattle.std.specs.Prelude.{ℤ, Bool, true, false, not, ◌&&◌, if◌then◌else◌, List, [], ◌∷◌, Option, Some, None, int_le}
 use Rattle.std.specs.Str.{bytes_eq}
 use Rattle.lb_tree.specs.declared.query.Comparison.{Comparison}
 use Rattle.lb_tree.specs.declared.query.Comparison.TheVariants as comparisons
@@ -25,19 +25,23 @@ use Rattle.lb_names.specs.Scopes.{Catalogue, same_column}
 pub record Like (A : Type 0) : Type 0 where
   pub to : A → Bool
 
+-- lists of one length, part by part
 abbrev pub all_like : {A : Type 0} → List (Like A) → List A → Bool
 all_like [] [] = true
 all_like (f ∷ fs) (x ∷ xs) = f.to x && all_like fs xs
 all_like _ _ = false
 
+-- both missing, or both there and the same
 abbrev pub both_like : {A : Type 0} → Option (Like A) → Option A → Bool
 both_like None None = true
 both_like (Some f) (Some x) = f.to x
 both_like _ _ = false
 
+-- both hold or neither does
 abbrev pub same_flag : Bool → Bool → Bool
 same_flag a b = if a then b else not b
 
+-- the same operator
 abbrev pub same_comparison : Comparison → Comparison → Bool
 same_comparison comparisons.Equal comparisons.Equal = true
 same_comparison comparisons.NotEqual comparisons.NotEqual = true
@@ -47,6 +51,7 @@ same_comparison comparisons.Greater comparisons.Greater = true
 same_comparison comparisons.AtLeast comparisons.AtLeast = true
 same_comparison _ _ = false
 
+-- the same aggregate
 abbrev pub same_aggregate : Aggregate → Aggregate → Bool
 same_aggregate aggregates.Count aggregates.Count = true
 same_aggregate aggregates.CountDistinct aggregates.CountDistinct = true
@@ -55,6 +60,7 @@ same_aggregate aggregates.Min aggregates.Min = true
 same_aggregate aggregates.Max aggregates.Max = true
 same_aggregate _ _ = false
 
+-- the same function
 abbrev pub same_function : Function → Function → Bool
 same_function functions.Length functions.Length = true
 same_function functions.Year functions.Year = true
@@ -62,14 +68,17 @@ same_function functions.Month functions.Month = true
 same_function functions.Day functions.Day = true
 same_function _ _ = false
 
+-- the same number
 abbrev pub same_int : ℤ → ℤ → Bool
 same_int m n = int_le m n && int_le n m
 
+-- the same texts in the same order
 abbrev pub same_names : List Name → List Name → Bool
 same_names [] [] = true
 same_names (x ∷ xs) (y ∷ ys) = bytes_eq x y && same_names xs ys
 same_names _ _ = false
 
+-- the same leaf
 abbrev pub same_atom : Catalogue → List Seen → Atom → Atom → Bool
 same_atom C seen atoms.Null atoms.Null = true
 same_atom C seen (atoms.Int m) (atoms.Int n) = same_int m n
@@ -86,9 +95,11 @@ same_atom C seen (atoms.SecLabelByName p l) (atoms.SecLabelByName q m) = bytes_e
 same_atom C seen (atoms.SecLabelToChar p c) (atoms.SecLabelToChar q d) = bytes_eq p q && same_column C seen c d
 same_atom C seen _ _ = false
 
+-- what each kind of node gives; a query, its items and joins are the same as no other
 abbrev pub liking : Kinds
 liking = record { cond = Like Cond; expr = Like Expr; item = Unit {0}; join = Unit {0}; arm = Like Arm; chain = Unit {0}; choice = Like Choice; query = Unit {0}; signed = Like Signed }
 
+-- the same form, and the parts the same
 abbrev pub expr_like : Catalogue → List Seen → Layer liking layers.Expr-F → Written layers.Expr-F → Bool
 expr_like C seen (layers.Expr-F.Atom a) (layers.Expr-F.Atom b) = same_atom C seen a b
 expr_like C seen (layers.Expr-F.Sum fs) (layers.Expr-F.Sum xs) = all_like fs xs
@@ -102,6 +113,7 @@ expr_like C seen (layers.Expr-F.Apply a f) (layers.Expr-F.Apply b x) = same_func
 expr_like C seen (layers.Expr-F.Coalesce fs) (layers.Expr-F.Coalesce xs) = all_like fs xs
 expr_like C seen _ _ = false
 
+-- the same form, and the parts the same; no subquery
 abbrev pub cond_like : Layer liking layers.Cond-F → Written layers.Cond-F → Bool
 cond_like (layers.Cond-F.Or fs) (layers.Cond-F.Or xs) = all_like fs xs
 cond_like (layers.Cond-F.And fs) (layers.Cond-F.And xs) = all_like fs xs
@@ -112,6 +124,7 @@ cond_like (layers.Cond-F.InList f fs) (layers.Cond-F.InList x xs) = f.to x && al
 cond_like (layers.Cond-F.Between f g h) (layers.Cond-F.Between x y z) = f.to x && (g.to y && h.to z)
 cond_like _ _ = false
 
+-- each kind of node by its parts
 abbrev pub like_steps : Catalogue → List Seen → Steps liking
 like_steps C seen = record {
   cond = λ f. record { to = λ c. cond_like f (out-Cond c) };

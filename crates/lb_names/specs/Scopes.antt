@@ -14,6 +14,7 @@ pub record Field : Type 0 where
   pub name : Name
   pub kind : Kind
 
+-- what a check asks of the catalogue
 pub record Catalogue : Type 0 where
   -- the columns of the table with that name, in order
   pub columns : Name → Option (List Field)
@@ -24,10 +25,12 @@ pub record Catalogue : Type 0 where
   -- the byte at which the text stops being a label text of the policy
   pub label_fault : Name → Name → Option ℕ
 
+-- it is there
 abbrev pub is_some : {A : Type 0} → Option A → Bool
 is_some None = false
 is_some (Some x) = true
 
+-- the list, empty where there is none
 abbrev pub listed : {A : Type 0} → Option (List A) → List A
 listed None = []
 listed (Some xs) = xs
@@ -36,9 +39,11 @@ listed (Some xs) = xs
 abbrev pub columns_of : Catalogue → Tab → List Field
 columns_of C tab = listed (C.columns tab.table)
 
+-- the column of that name
 abbrev pub field_named : Name → List Field → Option Field
 field_named n fields = find (λ f. bytes_eq f.name n) fields
 
+-- the item's table has a column of that name
 abbrev pub has_column : Catalogue → Name → Seen → Bool
 has_column C n s = list_any (λ f. bytes_eq f.name n) (columns_of C s.tab)
 
@@ -53,6 +58,7 @@ pub record Found : Type 0 where
 abbrev pub Resolved : Type 0
 Resolved = Result Found Name
 
+-- the column of the item, or the name that it lacks
 abbrev pub found_in : Name → Seen → Option Field → Resolved
 found_in n s None = Err n
 found_in n s (Some f) = Ok (record { item = s; field = f })
@@ -75,15 +81,18 @@ abbrev pub unqualified : Catalogue → Name → List Seen → Resolved
 unqualified C n [] = Err n
 unqualified C n (s ∷ seen) = if has_column C n s then (if is_shared C n s.level seen then Err n else column_of C n s) else unqualified C n seen
 
+-- a name, with its correlation name where one is written
 abbrev pub resolved_as : Catalogue → Option Name → Name → List Seen → Resolved
 resolved_as C None n seen = unqualified C n seen
 resolved_as C (Some x) n seen = qualified C x n seen
 
+-- what a column means where these items are in sight
 abbrev pub resolve : Catalogue → List Seen → Column → Resolved
 resolve C seen c = resolved_as C c.correlation c.name seen
 
 -- ---- the same column, however it is written
 
+-- the column of that name of an item
 abbrev pub spot_of : Seen → Name → Spot
 spot_of s n = record { level = s.level; correlation = correlation s.tab; column = n }
 
@@ -92,6 +101,7 @@ abbrev pub spots : Resolved → List Spot
 spots (Ok x) = spot_of x.item x.field.name ∷ []
 spots (Err n) = []
 
+-- the same column of the same item
 abbrev pub same_spot : Spot → Spot → Bool
 same_spot s t = (s.level == t.level) && (bytes_eq s.correlation t.correlation && bytes_eq s.column t.column)
 

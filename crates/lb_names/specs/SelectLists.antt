@@ -30,6 +30,7 @@ each_takes ws [] = true
 each_takes [] (k ∷ ks) = false
 each_takes (w ∷ ws) (k ∷ ks) = takes w k && each_takes ws ks
 
+-- each output is taken, where columns take them
 abbrev pub taken : Option (List Kind) → List Kind → Bool
 taken None ks = true
 taken (Some ws) ks = each_takes ws ks
@@ -42,6 +43,7 @@ fit W ks = not (W.distinct && list_any is_label ks) && taken W.kinds ks
 abbrev pub star_fits : Catalogue → List Seen → Wanted → Place → Bool
 star_fits C items W P = not (P.stored && (W.one || W.grouped)) && (all_free P C items && fit W (column_kinds C items))
 
+-- the outputs of a `*`, which is one node
 abbrev pub star_outputs : Catalogue → List Seen → Wanted → Place → ℕ → Typed (List Kind)
 star_outputs C items W P at = only_if (star_fits C items W P) at (column_kinds C items, next at)
 
@@ -49,6 +51,7 @@ star_outputs C items W P at = only_if (star_fits C items W P) at (column_kinds C
 abbrev pub called : Name → List Seen → List Seen
 called x items = filter (λ s. bytes_eq (correlation s.tab) x) items
 
+-- an item, by its parts
 abbrev pub item_step : Catalogue → Layer typing layers.Item-F → Shows
 item_step C layers.Item-F.Everything = record {
   marks = marks_in_item typing typing_marks layers.Item-F.Everything;
@@ -74,6 +77,7 @@ abbrev pub widths : List Shows → List Seen → ℕ
 widths [] own = 0
 widths (i ∷ items) own = i.width own + widths items own
 
+-- the columns that are still to take an output after so many
 abbrev pub rest_of : Option (List Kind) → ℕ → Option (List Kind)
 rest_of None n = None
 rest_of (Some ws) n = Some (drop n ws)
@@ -91,6 +95,7 @@ join_step (layers.Join-F.Inner tab c) = record { marked = marks_in_join typing t
 join_step (layers.Join-F.Left tab c) = record { marked = marks_in_join typing typing_marks (layers.Join-F.Left tab c); typed = λ P at. c.typed P at >>= only_if c.sure at }
 join_step (layers.Join-F.Cross tab) = record { marked = marks_in_join typing typing_marks (layers.Join-F.Cross tab); typed = λ P at. Ok (tt, at) }
 
+-- a chain, by its joins
 abbrev pub chain_step : Layer typing layers.Chain-F → Chains
 chain_step x = record { first = x.first; joins = x.joins }
 
@@ -99,6 +104,7 @@ abbrev pub joins_typed : Place → List Name → List Tab → List Joins → ℕ
 joins_typed P all tabs [] n = Ok (tt, n)
 joins_typed P all tabs (j ∷ joins) n = j.typed (on_place P all (tabs ++ j.marked.tab ∷ [])) n >>= λ x. joins_typed P all (tabs ++ j.marked.tab ∷ []) joins x.1
 
+-- all chains in text order
 abbrev pub chains_typed : Place → List Name → List Chains → ℕ → Typed (Unit {0})
 chains_typed P all [] n = Ok (tt, n)
 chains_typed P all (ch ∷ chains) n = joins_typed P all (ch.first ∷ []) ch.joins n >>= λ x. chains_typed P all chains x.1

@@ -1,6 +1,5 @@
 -- A small catalogue, and short ways to write trees, for examples.
-use Rattle.std.specs.Prelude.{ℕ, pos, Bool, true, false, ◌&&◌, if◌then◌else◌, List, [], ◌∷◌, map, find, Option, Some, None, option_map}
-use Rattle.std.specs.List.{list_any}
+use Rattle.std.specs.Prelude.{ℕ, pos, false, ◌&&◌, if◌then◌else◌, List, [], ◌∷◌, Option, Some, None}
 use Rattle.std.specs.Str.{bytes_eq}
 use Rattle.lb_tree.specs.declared.query.Aggregate.TheVariants as aggregates
 use Rattle.lb_tree.specs.declared.query.Comparison.TheVariants as comparisons
@@ -16,7 +15,6 @@ use Rattle.lb_tree.specs.declared.query.Item.TheVariants as items
 use Rattle.lb_tree.specs.declared.query.Join.{Join}
 use Rattle.lb_tree.specs.declared.query.Chain.{Chain}
 use Rattle.lb_tree.specs.declared.query.Query.{Query}
-use Rattle.lb_tree.specs.declared.query.Signed.{Signed}
 use Rattle.lb_tree.specs.declared.query.SortKey.{SortKey}
 use Rattle.lb_tree.specs.declared.query.Select.{Select}
 use Rattle.lb_tree.specs.declared.query.Direction.TheVariants.{Ascending}
@@ -69,6 +67,7 @@ x = 88 ∷ []
 
 -- ---- the catalogue
 
+-- a column with its kind
 abbrev pub field : Name → Kind → Field
 field n of_kind = record { name = n; kind = of_kind }
 
@@ -76,6 +75,7 @@ field n of_kind = record { name = n; kind = of_kind }
 abbrev pub tables : List (Name × List Field)
 tables = (w, field a integer ∷ []) ∷ (k, field a integer ∷ field b text ∷ []) ∷ (u, field a integer ∷ field b text ∷ field d date ∷ []) ∷ (t, field a integer ∷ field l (label p) ∷ []) ∷ []
 
+-- the columns of the table with that name
 abbrev pub columns_in : Name → List (Name × List Field) → Option (List Field)
 columns_in n [] = None
 columns_in n (table ∷ rest) = if bytes_eq table.0 n then Some table.1 else columns_in n rest
@@ -91,6 +91,7 @@ small = record {
 
 -- ---- expressions and conditions
 
+-- n
 abbrev pub col : Name → Expr
 col n = exprs.Atom (atoms.Column (record { correlation = None; name = n }))
 
@@ -98,9 +99,11 @@ col n = exprs.Atom (atoms.Column (record { correlation = None; name = n }))
 abbrev pub of : Name → Name → Expr
 of y n = exprs.Atom (atoms.Column (record { correlation = Some y; name = n }))
 
+-- a literal
 abbrev pub int : ℕ → Expr
 int n = exprs.Atom (atoms.Int (pos n))
 
+-- 1
 abbrev pub one : Expr
 one = int 1
 
@@ -108,12 +111,15 @@ one = int 1
 abbrev pub word : Expr
 word = exprs.Atom (atoms.Text (120 ∷ []))
 
+-- e + f
 abbrev pub plus : Expr → Expr → Expr
 plus e f = exprs.Sum (roll-Signed (record { minus = false; part = e }) ∷ roll-Signed (record { minus = false; part = f }) ∷ [])
 
+-- e = f
 abbrev pub equals : Expr → Expr → Cond
 equals e f = conds.Compare comparisons.Equal e f
 
+-- SUM(e)
 abbrev pub sum_of : Expr → Expr
 sum_of e = exprs.Aggregate aggregates.Sum e
 
@@ -123,6 +129,7 @@ one_where when = exprs.Case (roll-Arm (record { when = when; result = one }) ∷
 
 -- ---- queries
 
+-- n as a FROM item
 abbrev pub table : Name → Tab
 table n = record { table = n; correlation = None }
 
@@ -130,18 +137,23 @@ table n = record { table = n; correlation = None }
 abbrev pub alias : Name → Name → Tab
 alias n y = record { table = n; correlation = Some y }
 
+-- a table and its joins
 abbrev pub chain : Tab → List Join → Chain
 chain tab joins = roll-Chain (record { first = tab; joins = joins })
 
+-- FROM tab
 abbrev pub from : Tab → List Chain
 from tab = chain tab [] ∷ []
 
+-- an item without output name
 abbrev pub show : Expr → Item
 show e = items.Value e None
 
+-- n
 abbrev pub column : Name → Column
 column n = record { correlation = None; name = n }
 
+-- y.n
 abbrev pub column_of : Name → Name → Column
 column_of y n = record { correlation = Some y; name = n }
 
@@ -153,6 +165,7 @@ grouped items from filter group having = roll-Query (record { distinct = false; 
 abbrev pub query : List Item → List Chain → Option Cond → Query
 query items from filter = grouped items from filter [] None
 
+-- a key of ORDER BY
 abbrev pub key : Expr → SortKey
 key e = record { by = e; direction = Ascending }
 
@@ -160,11 +173,14 @@ key e = record { by = e; direction = Ascending }
 abbrev pub ordered : Query → List SortKey → Select
 ordered q keys = record { query = q; order = keys; fetch = None }
 
+-- a query as a statement
 abbrev pub select : Query → Stmt
 select q = stmts.Select (ordered q [])
 
+-- INSERT INTO table (columns) source
 abbrev pub insert : Name → Option (List Name) → InsertSource → Stmt
 insert table columns source = stmts.Insert (record { table = table; columns = columns; source = source })
 
+-- n = e
 abbrev pub set : Name → Expr → Assignment
 set n e = record { column = n; value = e }

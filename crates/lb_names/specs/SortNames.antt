@@ -1,8 +1,7 @@
 -- What a key of ORDER BY stands for: a whole bare name for the item with that output name, an integer for the output with that number.
-use Rattle.std.specs.Prelude.{ℤ, Bool, false, if◌then◌else◌, List, [], ◌∷◌, Option, Some, None}
+use Rattle.std.specs.Prelude.{ℤ, if◌then◌else◌, List, [], ◌∷◌, Option, Some, None}
 use Rattle.std.specs.Str.{bytes_eq}
 use Rattle.lb_tree.specs.declared.query.Atom.TheVariants as atoms
-use Rattle.lb_tree.specs.declared.query.Column.{Column}
 use Rattle.lb_tree.specs.declared.query.Expr.{Expr}
 use Rattle.lb_tree.specs.declared.query.Item.{Item}
 use Rattle.lb_tree.specs.declared.query.Cond.TheOpen as layers
@@ -25,6 +24,7 @@ abbrev pub if_named : Name → Written layers.Item-F → Option Expr
 if_named n (layers.Item-F.Value e (Some m)) = if bytes_eq n m then Some e else None
 if_named n i = None
 
+-- the first that is there
 abbrev pub or_else : {A : Type 0} → Option A → Option A → Option A
 or_else (Some x) y = Some x
 or_else None y = y
@@ -34,6 +34,7 @@ abbrev pub named : Name → List Item → Option Expr
 named n [] = None
 named n (i ∷ items) = or_else (if_named n (out-Item i)) (named n items)
 
+-- the same for a key that may be no bare name
 abbrev pub maybe_named : Option Name → List Item → Option Expr
 maybe_named None items = None
 maybe_named (Some n) items = named n items
@@ -42,6 +43,7 @@ maybe_named (Some n) items = named n items
 abbrev pub meant : List Item → Expr → Option Expr
 meant items e = maybe_named (bare_name (out-Expr e)) items
 
+-- the integer, where the expression is a literal as a whole
 abbrev pub position_in : Written layers.Expr-F → Option ℤ
 position_in (layers.Expr-F.Atom (atoms.Int n)) = Some n
 position_in e = None

@@ -15,8 +15,8 @@ use Rattle.lb_stmt.specs.declared.write.InsertSource.{InsertSource}
 use Rattle.lb_stmt.specs.declared.write.InsertSource.TheVariants as sources
 use Rattle.lb_stmt.specs.declared.write.Stmt.{Stmt}
 use Rattle.lb_stmt.specs.declared.write.Stmt.TheVariants as stmts
-use Rattle.lb_names.specs.Sights.{Name, Sight, nothing, inside, items_in}
-use Rattle.lb_names.specs.Marks.{Mark, enter, item, Marks, marked, mark_steps, tables_of, cond_marks, expr_marks, query_marks}
+use Rattle.lb_names.specs.Sights.{Name, Sight, nothing, inside}
+use Rattle.lb_names.specs.Marks.{enter, item, Marks, marked, mark_steps, tables_of, cond_marks, expr_marks, query_marks}
 use Rattle.lb_names.specs.SortNames.{meant}
 
 -- ---- queries with ORDER BY
@@ -38,6 +38,7 @@ key_marks v e None = expr_marks e v
 abbrev pub marks_of_key : List Item → Sight → SortKey → Marks
 marks_of_key items v k = key_marks v k.by (meant items k.by)
 
+-- the names in a query with its ORDER BY
 abbrev pub select_marks : Select → Marks
 select_marks s = query_marks s.query nothing ++ flat_map (marks_of_key (out-Query s.query).items (order_sight s)) s.order
 
@@ -55,6 +56,7 @@ target_of table = record { table = table; correlation = None }
 abbrev pub target_marks : Tab → Marks
 target_marks tab = enter (over tab).own ∷ item [] [] tab ∷ []
 
+-- the names in WHERE, where it is written
 abbrev pub where_marks : Sight → Option Cond → Marks
 where_marks v None = []
 where_marks v (Some c) = cond_marks c v
@@ -67,6 +69,7 @@ assignment_marks v a = expr_marks a.value v
 abbrev pub rows_marks : List (List Expr) → Marks
 rows_marks rows = flat_map (λ es. flat_map (λ e. expr_marks e nothing) es) rows
 
+-- the names in VALUES or in the source query
 abbrev pub source_marks : InsertSource → Marks
 source_marks (sources.Rows rows) = rows_marks rows
 source_marks (sources.Query s) = select_marks s

@@ -4,7 +4,6 @@ use Rattle.std.specs.List.{list_any, flat_map}
 use Rattle.lb_tree.specs.declared.query.Tab.{Tab}
 use Rattle.lb_tree.specs.declared.query.Expr.{Expr}
 use Rattle.lb_tree.specs.declared.query.Cond.{Cond}
-use Rattle.lb_tree.specs.declared.query.Select.{Select}
 use Rattle.lb_stmt.specs.declared.write.Assignment.{Assignment}
 use Rattle.lb_stmt.specs.declared.write.InsertSource.{InsertSource}
 use Rattle.lb_stmt.specs.declared.write.InsertSource.TheVariants as sources
@@ -16,14 +15,15 @@ use Rattle.lb_names.specs.Sights.{Name}
 use Rattle.lb_names.specs.SortNames.{or_else}
 use Rattle.lb_names.specs.StatementMarks.{over, target_of, marks_of, permission_marks, mask_marks}
 use Rattle.lb_names.specs.Kinds.{Kind, is_label, takes}
-use Rattle.lb_names.specs.Scopes.{Field, Catalogue, is_some, listed, field_named, columns_of}
+use Rattle.lb_names.specs.Scopes.{Field, Catalogue, is_some, field_named, columns_of}
 use Rattle.lb_names.specs.Passes.{holds, refusal_if, passes}
 use Rattle.lb_names.specs.Typed.{Typed, ◌>>=◌, only_if}
 use Rattle.lb_names.specs.Places.{Place, outermost}
-use Rattle.lb_names.specs.Typing.{says, means, maybe_typed}
+use Rattle.lb_names.specs.Typing.{says, means}
 use Rattle.lb_names.specs.OrderTyping.{select_typed}
 use Rattle.lb_names.specs.Qualify.{qualified_cond, qualified_expr}
 
+-- the refusal of a broken node
 abbrev pub broken : {A : Type 0} → Typed A → Option Refused
 broken (Ok x) = None
 broken (Err at) = Some (Types at)
@@ -52,6 +52,7 @@ stored_place tab = record outermost { sight = over tab; stored = true }
 abbrev pub target_refused : List Field → List Name → Name → Option Refused
 target_refused fields before n = if is_some (field_named n fields) then refusal_if (holds n before) (Exists n) else Some (Unknown n)
 
+-- the first refusal of these target columns
 abbrev pub targets_refused : List Field → List Name → List Name → Option Refused
 targets_refused fields before [] = None
 targets_refused fields before (n ∷ ns) = or_else (target_refused fields before n) (targets_refused fields (before ++ n ∷ []) ns)
@@ -66,6 +67,7 @@ abbrev pub given : List Field → Option (List Name) → List Name
 given fields None = map (λ f. f.name) fields
 given fields (Some ns) = ns
 
+-- the kind of a column that may be missing
 abbrev pub kind_in : Option Field → List Kind
 kind_in None = []
 kind_in (Some f) = f.kind ∷ []
@@ -74,6 +76,7 @@ kind_in (Some f) = f.kind ∷ []
 abbrev pub kind_wanted : List Field → Name → List Kind
 kind_wanted fields n = kind_in (field_named n fields)
 
+-- the kinds of the columns with these names
 abbrev pub kinds_wanted : List Field → List Name → List Kind
 kinds_wanted fields ns = flat_map (kind_wanted fields) ns
 
@@ -84,6 +87,7 @@ is_taken_by wanted k = list_any (λ w. takes w k) wanted
 module _ (C : Catalogue) where
   -- ---- INSERT
 
+  -- the columns of the table
   abbrev pub fields_of : Name → List Field
   fields_of table = columns_of C (target_of table)
 
@@ -97,13 +101,16 @@ module _ (C : Catalogue) where
   first_broken [] n = Ok (tt, n)
   first_broken (e ∷ es) n = (means C e).kind values_place n >>= λ x. Err n
 
+  -- a row of VALUES has as many values as there are columns
   abbrev pub row_typed : List Kind → List Expr → ℕ → Typed (Unit {0})
   row_typed ws es n = if length ws == length es then values_typed ws es n else first_broken es n
 
+  -- each row in its turn
   abbrev pub rows_typed : List Kind → List (List Expr) → ℕ → Typed (Unit {0})
   rows_typed ws [] n = Ok (tt, n)
   rows_typed ws (es ∷ rows) n = row_typed ws es n >>= λ x. rows_typed ws rows x.1
 
+  -- VALUES or the source query, for columns of these kinds
   abbrev pub source_types_refused : List Kind → InsertSource → Option Refused
   source_types_refused ws (sources.Rows rows) = broken (rows_typed ws rows 0)
   source_types_refused ws (sources.Query s) = broken (select_typed C s (Some ws))
@@ -119,6 +126,7 @@ module _ (C : Catalogue) where
   assignments_typed fields P [] n = Ok (tt, n)
   assignments_typed fields P (a ∷ rest) n = (means C a.value).kind P n >>= λ x. only_if (is_taken_by (kind_wanted fields a.column) x.0) n x >>= λ y. assignments_typed fields P rest y.1
 
+  -- WHERE, where it is written
   abbrev pub where_typed : Place → Option Cond → ℕ → Typed (Unit {0})
   where_typed P None n = Ok (tt, n)
   where_typed P (Some c) n = (says C c).typed P n
@@ -147,9 +155,11 @@ module _ (C : Catalogue) where
 
   -- ---- permissions and masks on a table that is there
 
+  -- the first refusal for names of the condition
   abbrev pub permission_names_refused : Tab → Cond → Option Refused
   permission_names_refused tab c = passes C true (permission_marks tab c) None
 
+  -- the first refusal for types of the condition
   abbrev pub permission_types_refused : Tab → Cond → Option Refused
   permission_types_refused tab c = broken ((says C c).typed (stored_place tab) 0)
 
@@ -157,6 +167,7 @@ module _ (C : Catalogue) where
   abbrev pub permission_qualified : Tab → Cond → Cond
   permission_qualified tab c = qualified_cond C c (over tab).seen
 
+  -- the first refusal for names of the CASE
   abbrev pub mask_names_refused : Tab → Expr → Option Refused
   mask_names_refused tab e = passes C true (mask_marks tab e) None
 

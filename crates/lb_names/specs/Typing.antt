@@ -1,5 +1,5 @@
 -- The types of queries, and of whole trees. A node is numbered before its parts, these in text order.
-use Rattle.std.specs.Prelude.{ℕ, Bool, true, false, not, ◌&&◌, ◌||◌, ◌==◌, if◌then◌else◌, List, [], ◌∷◌, length, Option, Some, None, Ok, Err}
+use Rattle.std.specs.Prelude.{ℕ, Bool, true, false, not, ◌&&◌, ◌||◌, ◌==◌, if◌then◌else◌, List, [], ◌∷◌, length, Option, Some, None, Ok}
 use Rattle.std.specs.List.{list_any, flat_map}
 use Rattle.lb_tree.specs.declared.query.Column.{Column}
 use Rattle.lb_tree.specs.declared.query.Tab.{Tab}
@@ -15,7 +15,7 @@ use Rattle.lb_tree.specs.declared.query.Signed.{Signed}
 use Rattle.lb_tree.specs.declared.query.Cond.TheOpen as layers
 use Rattle.lb_tree.specs.Folds.{Layer, Steps, cond_of, expr_of, item_of, join_of, arm_of, chain_of, choice_of, query_of, signed_of}
 use Rattle.lb_names.specs.declared.place.Group.{Group}
-use Rattle.lb_names.specs.Sights.{Name, calls_of, inside, level_in}
+use Rattle.lb_names.specs.Sights.{calls_of, inside}
 use Rattle.lb_names.specs.Marks.{marks_in_query, tables_from}
 use Rattle.lb_names.specs.Kinds.{Kind, is_label}
 use Rattle.lb_names.specs.Scopes.{Catalogue, is_some, resolve, spots}
@@ -26,6 +26,7 @@ use Rattle.lb_names.specs.Expressions.{kind_found, expr_step, arm_step, choice_s
 use Rattle.lb_names.specs.Conditions.{cond_step}
 use Rattle.lb_names.specs.SelectLists.{item_step, join_step, chain_step, widths, outputs_of, chains_typed}
 
+-- the list is not empty
 abbrev pub is_listed : {A : Type 0} → List A → Bool
 is_listed [] = false
 is_listed (x ∷ xs) = true
@@ -49,6 +50,7 @@ abbrev pub maybe_typed : Option Says → Place → ℕ → Typed (Unit {0})
 maybe_typed None P n = Ok (tt, n)
 maybe_typed (Some c) P n = c.typed P n
 
+-- the node of that number is no label
 abbrev pub no_label : ℕ → Kind × ℕ → Typed (Unit {0})
 no_label at x = only_if (not (is_label x.0)) at (tt, x.1)
 
@@ -80,6 +82,7 @@ query_kinds C q tabs groups R P at =
     maybe_typed q.having (having_place P tabs groups) g.1 >>= λ h.
     only_if (query_fits R P ks.0) at (ks.0, h.1)
 
+-- a query, by its parts
 abbrev pub query_step : Catalogue → Layer typing layers.Query-F → Answers
 query_step C q = record {
   marks = marks_in_query typing typing_marks q;
@@ -89,33 +92,43 @@ query_step C q = record {
 
 -- ---- whole trees
 
+-- each kind of node by its parts
 abbrev pub steps : Catalogue → Steps typing
 steps C = record { cond = cond_step; expr = expr_step C; item = item_step C; join = join_step; arm = arm_step; chain = chain_step; choice = choice_step; query = query_step C; signed = signed_step }
 
 module _ (C : Catalogue) where
+  -- the typing of a condition
   unfoldable pub says : Cond → Says
   says = cond_of typing (steps C)
 
+  -- the typing of an expression
   unfoldable pub means : Expr → Means
   means = expr_of typing (steps C)
 
+  -- the typing of an item
   unfoldable pub shows : Item → Shows
   shows = item_of typing (steps C)
 
+  -- the typing of a join
   unfoldable pub joins : Join → Joins
   joins = join_of typing (steps C)
 
+  -- the typing of WHEN condition THEN result
   unfoldable pub arms : Arm → Arms
   arms = arm_of typing (steps C)
 
+  -- the typing of a chain
   unfoldable pub chains : Chain → Chains
   chains = chain_of typing (steps C)
 
+  -- the typing of WHEN value THEN result
   unfoldable pub choices : Choice → Choices
   choices = choice_of typing (steps C)
 
+  -- the typing of a query
   unfoldable pub answers : Query → Answers
   answers = query_of typing (steps C)
 
+  -- the typing of a part of a sum
   unfoldable pub signs : Signed → Means
   signs = signed_of typing (steps C)

@@ -1,13 +1,14 @@
 -- The columns that a statement names through each of its FROM items. A table that stands twice is two items.
-use Rattle.std.specs.Prelude.{ℕ, Bool, true, false, ◌&&◌, ◌||◌, ◌==◌, if◌then◌else◌, List, [], ◌∷◌, ◌++◌, map, Option, Some, None, Ok, Err}
+use Rattle.std.specs.Prelude.{ℕ, Bool, true, false, ◌&&◌, ◌==◌, if◌then◌else◌, List, [], ◌∷◌, ◌++◌, map, Option, Some, None, Ok, Err}
 use Rattle.std.specs.List.{list_any, flat_map}
 use Rattle.std.specs.Str.{bytes_eq}
 use Rattle.lb_tree.specs.declared.query.Tab.{Tab}
 use Rattle.lb_names.specs.declared.place.Seen.{Seen}
 use Rattle.lb_names.specs.Sights.{Name, correlation}
-use Rattle.lb_names.specs.Marks.{Mark, enter, item, column, star, call, Marks}
+use Rattle.lb_names.specs.Marks.{Mark, enter, column, star, Marks}
 use Rattle.lb_names.specs.Scopes.{Catalogue, Resolved, resolve}
 
+-- a FROM item, or the target of a write, and what is named through it
 pub record Used : Type 0 where
   pub tab : Tab
   -- in text order, with repeats
@@ -21,18 +22,22 @@ same_item s t = (s.level == t.level) && bytes_eq (correlation s.tab) (correlatio
 
 -- ---- what one mark names through an item
 
+-- the column, where it is of that item
 abbrev pub named_by : Seen → Resolved → List Name
 named_by s (Ok x) = if same_item s x.item then x.field.name ∷ [] else []
 named_by s (Err n) = []
 
+-- the columns of the item that a mark names
 abbrev pub named_through : Catalogue → Seen → Mark → List Name
 named_through C s (column seen c) = named_by s (resolve C seen c)
 named_through C s _ = []
 
+-- a `*` or `x.*` is for the item
 abbrev pub is_star_of : Seen → Option Name → Bool
 is_star_of s None = true
 is_star_of s (Some x) = bytes_eq (correlation s.tab) x
 
+-- the mark names all columns of the item
 abbrev pub is_starred : Seen → Mark → Bool
 is_starred s (star items x) = list_any (same_item s) items && is_star_of s x
 is_starred s _ = false
@@ -44,6 +49,7 @@ abbrev pub are_at : ℕ → List Seen → Bool
 are_at n [] = false
 are_at n (s ∷ items) = s.level == n
 
+-- a query of that level begins
 abbrev pub begins_at : ℕ → Mark → Bool
 begins_at n (enter items) = are_at n items
 begins_at n _ = false
@@ -53,6 +59,7 @@ abbrev pub before_next : ℕ → Marks → Marks
 before_next n [] = []
 before_next n (m ∷ marks) = if begins_at n m then [] else m ∷ before_next n marks
 
+-- what these marks name through an item
 abbrev pub used_item : Catalogue → Marks → Seen → Used
 used_item C marks s = record {
   tab = s.tab;

@@ -1,8 +1,9 @@
 // Laws of the definitions of names and types. Each is the contract of a function that does nothing.
 ghost use Rattle.std.specs.Prelude.{◌≡◌, Some, None, [], ◌∷◌, true};
+ghost use Rattle.lb_stmt.specs.declared.write.Stmt.TheVariants as stmts;
 ghost use Rattle.lb_names.specs.declared.refused.Refused.TheVariants.{BadLabel, Exists, Types, Unknown};
 ghost use Rattle.lb_names.specs.Examples as e;
-ghost use Rattle.lb_names.specs.Laws.{FormsHaveAFrame, MentionsAreMarked, NamesHaveAFrame, TypesHaveAFrame};
+ghost use Rattle.lb_names.specs.Laws.{FormsAreQualified, FormsHaveAFrame, FormsKeepMentions, MentionsAreMarked, MentionsAreThere, NamesHaveAFrame, TypesHaveAFrame, TypingCarriesMarks};
 ghost use Rattle.lb_names.specs.Scopes.{Catalogue};
 ghost use Rattle.lb_names.specs.Small.{a, b, k, small, table, w, x};
 ghost use Rattle.lb_names.specs.StatementMarks.{marks_of};
@@ -12,6 +13,11 @@ ghost use Rattle.lb_names.specs.Used.{used_items};
 /// What a statement mentions of the catalogue is what its names mention, in text order.
 pub fn mentions_are_marked()
     ensures { MentionsAreMarked }
+{}
+
+/// The names that typing sees in a tree are the marks of the tree.
+pub fn typing_carries_marks()
+    ensures { (C : Catalogue) → TypingCarriesMarks C }
 {}
 
 /// The first refusal for names depends on the catalogue by what is mentioned alone.
@@ -27,6 +33,21 @@ pub fn types_have_a_frame()
 /// The qualified form of a permission or a mask depends on the catalogue by what is mentioned alone.
 pub fn forms_have_a_frame()
     ensures { (C D : Catalogue) → FormsHaveAFrame C D }
+{}
+
+/// The qualified form of a permission or a mask mentions what is mentioned as it is written.
+pub fn forms_keep_mentions()
+    ensures { (C : Catalogue) → FormsKeepMentions C }
+{}
+
+/// Where the names of a permission or a mask are not refused, each column of its qualified form has a correlation name.
+pub fn forms_are_qualified()
+    ensures { (C : Catalogue) → FormsAreQualified C }
+{}
+
+/// Where the names are not refused, the tables, policies and labels that are mentioned are there.
+pub fn mentions_are_there()
+    ensures { (C : Catalogue) → MentionsAreThere C }
 {}
 
 /// Names and types of statements, permissions and masks over a small catalogue, a condition that is qualified, and the columns
@@ -47,9 +68,6 @@ pub fn worked_names()
     ensures subquery_in_items { types_refused small e.subquery_in_items ≡ Some (Types 4) }
     ensures group_of_outer_column { types_refused small e.group_of_outer_column ≡ Some (Types 8) }
     ensures too_many_values { types_refused small e.too_many_values ≡ Some (Types 2) }
-    ensures too_many_outputs { types_refused small e.too_many_outputs ≡ Some (Types 0) }
-    ensures label_key { types_refused small e.label_key ≡ Some (Types 3) }
-    ensures distinct_keys { types_refused small e.distinct_keys ≡ Some (Types 13) }
     ensures stored_star { permission_types_refused small (table k) e.stored_star ≡ Some (Types 3) }
     ensures stored_star_beside_group { permission_types_refused small (table k) e.stored_star_beside_group ≡ Some (Types 2) }
     ensures count_in_mask { mask_types_refused small (table k) a e.count_in_mask ≡ Some (Types 6) }
@@ -57,4 +75,7 @@ pub fn worked_names()
     ensures two_then_none { used_items small (marks_of e.two_then_none) ≡ e.used w [] ∷ e.used k (a ∷ b ∷ []) ∷ e.used k [] ∷ [] }
     ensures one_then_one { used_items small (marks_of e.one_then_one) ≡ e.used w [] ∷ e.used k (a ∷ []) ∷ e.used k (b ∷ []) ∷ [] }
     ensures all_columns { used_items small (marks_of e.all_columns) ≡ e.used w [] ∷ record (e.used k []) { everything = true } ∷ [] }
+    ensures too_many_outputs { types_refused small e.too_many_outputs ≡ Some (Types 0) }
+    ensures by_a_label { types_refused small (stmts.Select e.by_a_label) ≡ Some (Types 3) }
+    ensures by_another_column { types_refused small (stmts.Select e.by_another_column) ≡ Some (Types 2) }
 {}

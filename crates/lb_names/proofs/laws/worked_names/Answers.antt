@@ -46,15 +46,6 @@ returns-clause-group_of_outer_column c = computed.group_of_outer_column
 pub returns-clause-too_many_values : goal.returns-clause-too_many_values
 returns-clause-too_many_values c = computed.too_many_values
 
-pub returns-clause-too_many_outputs : goal.returns-clause-too_many_outputs
-returns-clause-too_many_outputs c = computed.too_many_outputs
-
-pub returns-clause-label_key : goal.returns-clause-label_key
-returns-clause-label_key c = computed.label_key
-
-pub returns-clause-distinct_keys : goal.returns-clause-distinct_keys
-returns-clause-distinct_keys c = computed.distinct_keys
-
 pub returns-clause-stored_star : goal.returns-clause-stored_star
 returns-clause-stored_star c = computed.stored_star
 
@@ -75,3 +66,12 @@ returns-clause-one_then_one c = computed.one_then_one
 
 pub returns-clause-all_columns : goal.returns-clause-all_columns
 returns-clause-all_columns c = computed.all_columns
+
+pub returns-clause-too_many_outputs : goal.returns-clause-too_many_outputs
+returns-clause-too_many_outputs c = computed.too_many_outputs
+
+pub returns-clause-by_a_label : goal.returns-clause-by_a_label
+returns-clause-by_a_label c = computed.by_a_label
+
+pub returns-clause-by_another_column : goal.returns-clause-by_another_column
+returns-clause-by_another_column c = computed.by_another_column
