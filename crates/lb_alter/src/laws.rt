@@ -14,6 +14,7 @@ ghost use Rattle.lb_alter.specs.WorkedControls.{
   AreInUse,
   CalledIsInUse,
   MasksAreRefused,
+  NamedIsInUse,
   OtherKindIsUnknown,
   PermissionsAreRefused,
   SourcesStandBetween,
@@ -38,6 +39,7 @@ pub fn worked_controls()
     ensures switches { (K : Checks) → Switches K }
     ensures used { (K : Checks) → AreInUse K }
     ensures called { (K : Checks) → CalledIsInUse K }
+    ensures named { (K : Checks) → NamedIsInUse K }
 {}
 
 /// A key that a change doesn't touch has the same record and the same rows afterwards.
