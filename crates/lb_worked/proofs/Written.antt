@@ -1,7 +1,7 @@
 -- The examples of specs/Written, computed.
 use Rattle.std.proofs.Common.{◌≡◌, refl}
 use Rattle.lb_base.specs.Arithmetic.{in_64_bits, sum_of, product_of}
-use Rattle.lb_worked.specs.Written.{DoubledKey, KeysAfterRows, KeysOfNewRows, KeepsPlaces, LeavesOthers, GoesLast, RowByRow, NoPermission, MaskedSource, OwnValues}
+use Rattle.lb_worked.specs.Written.{DoubledKey, KeysAfterRows, KeysOfNewRows, KeepsPlaces, LeavesOthers, GoLast, RowByRow, NoPermission, MaskedSource, OwnValues}
 use Rattle.lb_worked.proofs.Computing.{computing}
 
 pub doubled_key : DoubledKey
@@ -24,9 +24,9 @@ pub leaves_others : LeavesOthers
 unfolding in_64_bits sum_of product_of
 leaves_others = simp computing refl
 
-pub goes_last : GoesLast
+pub go_last : GoLast
 unfolding in_64_bits sum_of product_of
-goes_last = simp computing refl
+go_last = simp computing refl
 
 pub row_by_row : RowByRow
 unfolding in_64_bits sum_of product_of
@@ -34,7 +34,7 @@ row_by_row = simp computing refl
 
 pub no_permission : NoPermission
 unfolding in_64_bits sum_of product_of
-no_permission = simp computing ?
+no_permission = simp computing refl
 
 pub masked_source : MaskedSource
 unfolding in_64_bits sum_of product_of
