@@ -11,7 +11,7 @@ use Rattle.lb_answer.specs.Answer.{Answered}
 use Rattle.lb_worked.specs.Changes.{insert, insert_where, update, delete, wrote, refused}
 use Rattle.lb_worked.specs.Masked.{emp, m2, rows as employees}
 use Rattle.lb_worked.specs.Orders.{r, rows as sources}
-use Rattle.lb_worked.specs.Trees.{col, int, text, plus, substr, equal}
+use Rattle.lb_worked.specs.Trees.{col, int, text, plus, case, equal, greater}
 use Rattle.lb_worked.specs.Tables.{column, plain, guarded_by, masked_by, holding, number, word, with_tables, answered}
 
 -- K (ID BIGINT PRIMARY KEY, X BIGINT) with the rows 1, 10 and 2, 20
@@ -56,9 +56,9 @@ GoLast = to_k (insert (codes "K") (plus (col (codes "A")) (int 2) ∷ col (codes
 abbrev pub w : Table
 w = plain (codes "W") (column (codes "V") (types.Text 1) ∷ [])
 
--- INSERT INTO W SELECT SUBSTR('xab', X + 1) FROM R: the checks of a row come before the values of the next one
+-- INSERT INTO W SELECT CASE WHEN X + 1 > 0 THEN 'ab' ELSE 'c' END FROM R: the checks of a row come before the values of the next one
 abbrev pub RowByRow : Type 0
-RowByRow = answered (with_tables (w ∷ r ∷ [])) (holding w [] ∷ sources) (codes "ANN") (insert (codes "W") (substr (text (codes "xab")) (plus (col (codes "X")) (int 1)) ∷ []) (codes "R"))
+RowByRow = answered (with_tables (w ∷ r ∷ [])) (holding w [] ∷ sources) (codes "ANN") (insert (codes "W") (case (greater (plus (col (codes "X")) (int 1)) (int 0)) (text (codes "ab")) (text (codes "c")) ∷ []) (codes "R"))
     ≡ refused (refusals.TooWide (codes "W") (codes "V") 1)
 
 -- INSERT INTO W SELECT 'a' FROM R where row access control is active and no permission is there
