@@ -3,7 +3,7 @@ use Rattle.std.proofs.Common.{ℕ, ℤ, ◌≡◌, refl, ap, List, [], ◌∷◌
 use Rattle.std.specs.Prelude.{option_map}
 use Rattle.std.specs.List.{flat_map}
 use Rattle.lb_base.specs.declared.value.Value.{Value}
-use Rattle.lb_base.specs.Evaluated.{Evaluated, each}
+use Rattle.lb_base.specs.Evaluated.{Evaluated}
 use Rattle.lb_tree.specs.declared.query.Cond.{Cond}
 use Rattle.lb_tree.specs.declared.query.Expr.{Expr}
 use Rattle.lb_tree.specs.declared.query.Tab.{Tab}
@@ -23,6 +23,7 @@ use Rattle.lb_names.specs.Mentions.{Mention, Mentions, table, in_expr, in_cond, 
 use Rattle.lb_rows.specs.Tables.{Tables, rows_of}
 use Rattle.lb_mean.specs.Setting.{Setting, Source, Frame, row_frame}
 use Rattle.lb_mean.specs.Conditions.{outputs}
+use Rattle.lb_mean.specs.Expressions.{all_values}
 use Rattle.lb_mean.specs.Joined.{correlation_of, piece}
 use Rattle.lb_mean.specs.Meant.{Says}
 use Rattle.lb_mean.specs.Queries.{where_true}
@@ -102,10 +103,10 @@ module _ (C : Cat) (c : Cred) (T U : Tables) (day : ℤ) where
 
   -- ---- UPDATE
 
-  assigned_alike : (xs : List Assignment) → Alike (flat_map in_assignment xs) → (env : List Frame) → map (λ a. (means g a.value).value env) xs ≡ map (λ a. (means h a.value).value env) xs
-  assigned_alike [] k env = refl
-  assigned_alike (x ∷ xs) k env = λ i. (expr_alike x.value (first (SameMention C C T U) (in_assignment x) (flat_map in_assignment xs) k) i).value env
-      ∷ assigned_alike xs (second (SameMention C C T U) (in_assignment x) (flat_map in_assignment xs) k) env i
+  assigned_alike : (xs : List Assignment) → Alike (flat_map in_assignment xs) → map (λ a. means g a.value) xs ≡ map (λ a. means h a.value) xs
+  assigned_alike [] k = refl
+  assigned_alike (x ∷ xs) k = λ i. expr_alike x.value (first (SameMention C C T U) (in_assignment x) (flat_map in_assignment xs) k) i
+      ∷ assigned_alike xs (second (SameMention C C T U) (in_assignment x) (flat_map in_assignment xs) k) i
 
   update_alike : (u : Update) (t : Table) → SameMention C C T U (table u.target.table) → Stored t → Alike (flat_map in_assignment u.assignments ++ in_where u.filter)
       → update_in C c T day u t ≡ update_in C c U day u t
@@ -113,7 +114,7 @@ module _ (C : Cat) (c : Cred) (T U : Tables) (day : ℤ) where
       (record {
         sees = sees_alike t stored i;
         keeps = λ row. where_true (filter i) (old row i ∷ []);
-        values = λ row. each (assigned_alike u.assignments assigned (old row i ∷ []) i);
+        values = λ row. all_values (assigned_alike u.assignments assigned i) (old row i ∷ []);
         masked = λ row. flat_map (λ a. masked_among C (old row i) (flat_map (shown_by_name (from_item (columns_of C) u.target ∷ [])) (uses_in (columns_of C) a.value).columns)) u.assignments;
         permits = permits_alike t stored i;
         fails = label_failure c (policy_of_table C t);
@@ -147,9 +148,9 @@ module _ (C : Cat) (c : Cred) (T U : Tables) (day : ℤ) where
 
   -- ---- INSERT
 
-  values_alike : (es : List Expr) → Alike (flat_map in_expr es) → map (λ e. (means g e).value []) es ≡ map (λ e. (means h e).value []) es
+  values_alike : (es : List Expr) → Alike (flat_map in_expr es) → map (means g) es ≡ map (means h) es
   values_alike [] k = refl
-  values_alike (e ∷ es) k = λ i. (expr_alike e (first (SameMention C C T U) (in_expr e) (flat_map in_expr es) k) i).value []
+  values_alike (e ∷ es) k = λ i. expr_alike e (first (SameMention C C T U) (in_expr e) (flat_map in_expr es) k) i
       ∷ values_alike es (second (SameMention C C T U) (in_expr e) (flat_map in_expr es) k) i
 
   module _ (t : Table) (stored : Stored t) (places : List ℕ) where
@@ -163,7 +164,7 @@ module _ (C : Cat) (c : Cred) (T U : Tables) (day : ℤ) where
         (record {
           sees = λ row. Ok false;
           keeps = λ row. Ok false;
-          values = λ x. each (values_alike es (first (SameMention C C T U) (flat_map in_expr es) (flat_map (flat_map in_expr) rows) k) i);
+          values = λ x. all_values (values_alike es (first (SameMention C C T U) (flat_map in_expr es) (flat_map (flat_map in_expr) rows) k) i) [];
           masked = λ x. [];
           permits = permits_alike t stored i;
           fails = label_failure c p;

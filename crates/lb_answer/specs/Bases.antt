@@ -5,7 +5,7 @@ use Rattle.std.specs.Option.{option_and_then, option_to_list}
 use Rattle.std.specs.Str.{bytes_eq}
 use Rattle.lb_base.specs.declared.value.Value.{Value}
 use Rattle.lb_base.specs.declared.value.Value.TheVariants as values
-use Rattle.lb_base.specs.Evaluated.{Evaluated, each}
+use Rattle.lb_base.specs.Evaluated.{Evaluated}
 use Rattle.lb_label.specs.declared.access.Fail.{Fail}
 use Rattle.lb_tree.specs.declared.query.Cond.{Cond}
 use Rattle.lb_tree.specs.declared.query.Expr.{Expr}
@@ -23,7 +23,8 @@ use Rattle.lb_mean.specs.Environment.{cell_named}
 use Rattle.lb_mean.specs.Conditions.{outputs}
 use Rattle.lb_mean.specs.Joined.{correlation_of, piece}
 use Rattle.lb_mean.specs.Queries.{where_true}
-use Rattle.lb_mean.specs.Meaning.{says, value_of, answers}
+use Rattle.lb_mean.specs.Expressions.{all_values}
+use Rattle.lb_mean.specs.Meaning.{says, means, answers}
 use Rattle.lb_mean.specs.Visible.{is_visible, is_permitted}
 use Rattle.lb_mean.specs.Named.{FromItem, Named, QueryUses, name_of_item}
 use Rattle.lb_mean.specs.Uses.{uses_in, uses_in_query, from_item}
@@ -85,7 +86,7 @@ module _ (C : Cat) (c : Cred) (W S : Setting) (t : Table) (p : Option Policy) wh
   update_basis u = record {
     sees = is_visible W t;
     keeps = is_kept u.target u.filter;
-    values = λ row. each (map (λ a. value_of S a.value (target_row u.target row ∷ [])) u.assignments);
+    values = λ row. all_values (map (λ a. means S a.value) u.assignments) (target_row u.target row ∷ []);
     masked = λ row. flat_map (λ a. masked_in_value u.target row a.value) u.assignments;
     permits = is_permitted W t;
     fails = label_failure c p;
@@ -118,7 +119,7 @@ module _ (C : Cat) (c : Cred) (W S : Setting) (t : Table) (p : Option Policy) wh
 
   -- INSERT with VALUES makes a row from each row of expressions, which name no columns
   abbrev pub values_basis : Basis (List Expr)
-  values_basis = insert_basis (λ es. each (map (λ e. value_of S e []) es)) (λ es. [])
+  values_basis = insert_basis (λ es. all_values (map (means S) es) []) (λ es. [])
 
   -- the masked columns in the select list of INSERT's query, for one of its rows or groups
   abbrev pub masked_in_query : QueryUses → Frame → List MaskedValue

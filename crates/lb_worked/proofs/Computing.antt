@@ -6,11 +6,11 @@ use Rattle.lb_tree.specs.declared.query.Cond.TheViews.{roll-Cond, roll-Expr, rol
 use Rattle.lb_tree.specs.Folds.{Written, cond_of, cond_layer, expr_of, expr_layer, item_of, item_layer, join_of, join_layer, arm_of, arm_layer, chain_of, chain_layer, choice_of, choice_layer, query_of, query_layer, signed_of, signed_layer}
 use Rattle.lb_tree.proofs.Opens.{cond_roll, expr_roll, item_roll, join_roll, arm_roll, chain_roll, choice_roll, query_roll, signed_roll}
 use Rattle.lb_cat.specs.declared.catalog.ColumnRec.{ColumnRec}
-use Rattle.lb_names.specs.Mentions.{naming, naming_steps}
+use Rattle.lb_names.specs.Mentions.{naming, naming_steps, in_cond, in_expr, in_query}
 use Rattle.lb_mean.specs.Meant.{meaning}
-use Rattle.lb_mean.specs.Meaning.{steps}
+use Rattle.lb_mean.specs.Meaning.{steps, says, means, answers}
 use Rattle.lb_mean.specs.Setting.{Setting}
-use Rattle.lb_mean.specs.Uses.{using, use_steps}
+use Rattle.lb_mean.specs.Uses.{using, use_steps, uses_in, uses_in_cond, uses_in_query}
 
 pub m_cond : (S : Setting) (x : Written layers.Cond-F) → cond_of meaning (steps S) (roll-Cond x) ≡ (steps S).cond (cond_layer meaning (steps S) x)
 m_cond S x = cond_roll meaning (steps S) x
@@ -93,4 +93,40 @@ u_query columns x = query_roll using (use_steps columns) x
 pub u_signed : (columns : List ℕ → List ColumnRec) (x : Written layers.Signed-F) → signed_of using (use_steps columns) (roll-Signed x) ≡ (use_steps columns).signed (signed_layer using (use_steps columns) x)
 u_signed columns x = signed_roll using (use_steps columns) x
 
-pub ruleset computing = (m_cond, m_expr, m_item, m_join, m_arm, m_chain, m_choice, m_query, m_signed, n_cond, n_expr, n_item, n_join, n_arm, n_chain, n_choice, n_query, n_signed, u_cond, u_expr, u_item, u_join, u_arm, u_chain, u_choice, u_query, u_signed, out-roll-Query, out-roll-Item, out-roll-Expr)
+pub open_says : (S : Setting) (x : Written layers.Cond-F) → says S (roll-Cond x) ≡ (steps S).cond (cond_layer meaning (steps S) x)
+unfolding says
+open_says S x = cond_roll meaning (steps S) x
+
+pub open_means : (S : Setting) (x : Written layers.Expr-F) → means S (roll-Expr x) ≡ (steps S).expr (expr_layer meaning (steps S) x)
+unfolding means
+open_means S x = expr_roll meaning (steps S) x
+
+pub open_answers : (S : Setting) (x : Written layers.Query-F) → answers S (roll-Query x) ≡ (steps S).query (query_layer meaning (steps S) x)
+unfolding answers
+open_answers S x = query_roll meaning (steps S) x
+
+pub open_mentions_of_cond : (x : Written layers.Cond-F) → in_cond (roll-Cond x) ≡ naming_steps.cond (cond_layer naming naming_steps x)
+unfolding in_cond
+open_mentions_of_cond x = cond_roll naming naming_steps x
+
+pub open_mentions_of_expr : (x : Written layers.Expr-F) → in_expr (roll-Expr x) ≡ naming_steps.expr (expr_layer naming naming_steps x)
+unfolding in_expr
+open_mentions_of_expr x = expr_roll naming naming_steps x
+
+pub open_mentions_of_query : (x : Written layers.Query-F) → in_query (roll-Query x) ≡ naming_steps.query (query_layer naming naming_steps x)
+unfolding in_query
+open_mentions_of_query x = query_roll naming naming_steps x
+
+pub open_uses_of_cond : (columns : List ℕ → List ColumnRec) (x : Written layers.Cond-F) → uses_in_cond columns (roll-Cond x) ≡ (use_steps columns).cond (cond_layer using (use_steps columns) x)
+unfolding uses_in_cond
+open_uses_of_cond columns x = cond_roll using (use_steps columns) x
+
+pub open_uses_of_expr : (columns : List ℕ → List ColumnRec) (x : Written layers.Expr-F) → uses_in columns (roll-Expr x) ≡ (use_steps columns).expr (expr_layer using (use_steps columns) x)
+unfolding uses_in
+open_uses_of_expr columns x = expr_roll using (use_steps columns) x
+
+pub open_uses_of_query : (columns : List ℕ → List ColumnRec) (x : Written layers.Query-F) → uses_in_query columns (roll-Query x) ≡ (use_steps columns).query (query_layer using (use_steps columns) x)
+unfolding uses_in_query
+open_uses_of_query columns x = query_roll using (use_steps columns) x
+
+pub ruleset computing = (open_says, open_means, open_answers, open_mentions_of_cond, open_mentions_of_expr, open_mentions_of_query, open_uses_of_cond, open_uses_of_expr, open_uses_of_query, m_cond, m_expr, m_item, m_join, m_arm, m_chain, m_choice, m_query, m_signed, n_cond, n_expr, n_item, n_join, n_arm, n_chain, n_choice, n_query, n_signed, u_cond, u_expr, u_item, u_join, u_arm, u_chain, u_choice, u_query, u_signed, out-roll-Query, out-roll-Item, out-roll-Expr)

@@ -3,6 +3,7 @@ mod Sure
 mod Orders
 mod Permitted
 mod Masked
+mod Edges
 mod Labelled
 mod Written
 mod Stored

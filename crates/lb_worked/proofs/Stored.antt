@@ -1,48 +1,45 @@
 -- The examples of specs/Stored, computed.
 use Rattle.std.proofs.Common.{◌≡◌, refl}
 use Rattle.lb_base.specs.Arithmetic.{in_64_bits, sum_of, product_of}
-use Rattle.lb_names.specs.Mentions.{in_query, in_expr, in_cond}
-use Rattle.lb_mean.specs.Meaning.{answers, means, says}
-use Rattle.lb_mean.specs.Uses.{uses_in, uses_in_cond, uses_in_query}
 use Rattle.lb_worked.specs.Stored.{TakesOwnLabel, KeepsLabel, NullIsNotGiven, ReadableNotWritable, FirstComponent, Overridden, GivenWithoutLabel, NoOwnLabel, HiddenKey, SecuredColumn}
 use Rattle.lb_worked.proofs.Computing.{computing}
 
 pub takes_own_label : TakesOwnLabel
-unfolding answers means says uses_in uses_in_cond uses_in_query in_query in_expr in_cond in_64_bits sum_of product_of
+unfolding in_64_bits sum_of product_of
 takes_own_label = simp computing refl
 
 pub keeps_label : KeepsLabel
-unfolding answers means says uses_in uses_in_cond uses_in_query in_query in_expr in_cond in_64_bits sum_of product_of
+unfolding in_64_bits sum_of product_of
 keeps_label = simp computing refl
 
 pub null_is_not_given : NullIsNotGiven
-unfolding answers means says uses_in uses_in_cond uses_in_query in_query in_expr in_cond in_64_bits sum_of product_of
+unfolding in_64_bits sum_of product_of
 null_is_not_given = simp computing refl
 
 pub readable_not_writable : ReadableNotWritable
-unfolding answers means says uses_in uses_in_cond uses_in_query in_query in_expr in_cond in_64_bits sum_of product_of
+unfolding in_64_bits sum_of product_of
 readable_not_writable = simp computing refl
 
 pub first_component : FirstComponent
-unfolding answers means says uses_in uses_in_cond uses_in_query in_query in_expr in_cond in_64_bits sum_of product_of
+unfolding in_64_bits sum_of product_of
 first_component = simp computing refl
 
 pub overridden : Overridden
-unfolding answers means says uses_in uses_in_cond uses_in_query in_query in_expr in_cond in_64_bits sum_of product_of
+unfolding in_64_bits sum_of product_of
 overridden = simp computing refl
 
 pub given_without_label : GivenWithoutLabel
-unfolding answers means says uses_in uses_in_cond uses_in_query in_query in_expr in_cond in_64_bits sum_of product_of
+unfolding in_64_bits sum_of product_of
 given_without_label = simp computing refl
 
 pub no_own_label : NoOwnLabel
-unfolding answers means says uses_in uses_in_cond uses_in_query in_query in_expr in_cond in_64_bits sum_of product_of
+unfolding in_64_bits sum_of product_of
 no_own_label = simp computing refl
 
 pub hidden_key : HiddenKey
-unfolding answers means says uses_in uses_in_cond uses_in_query in_query in_expr in_cond in_64_bits sum_of product_of
+unfolding in_64_bits sum_of product_of
 hidden_key = simp computing refl
 
 pub secured_column : SecuredColumn
-unfolding answers means says uses_in uses_in_cond uses_in_query in_query in_expr in_cond in_64_bits sum_of product_of
+unfolding in_64_bits sum_of product_of
 secured_column = simp computing refl

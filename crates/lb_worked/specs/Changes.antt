@@ -1,9 +1,8 @@
 -- Short words for writes.
-use Rattle.std.specs.Prelude.{ℕ, List, [], ◌∷◌, Option, Some, None}
+use Rattle.std.specs.Prelude.{ℕ, List, [], ◌∷◌, map, Option, Some, None}
 use Rattle.lb_base.specs.declared.value.Value.{Value}
 use Rattle.lb_tree.specs.declared.query.Cond.{Cond}
 use Rattle.lb_tree.specs.declared.query.Expr.{Expr}
-use Rattle.lb_tree.specs.declared.query.Select.{Select}
 use Rattle.lb_stmt.specs.declared.write.InsertSource.TheVariants as sources
 use Rattle.lb_stmt.specs.declared.write.Stmt.{Stmt}
 use Rattle.lb_stmt.specs.declared.write.Stmt.TheVariants as stmts
@@ -12,20 +11,20 @@ use Rattle.lb_cat.specs.declared.reply.Reply.TheVariants as replies
 use Rattle.lb_cat.specs.declared.reply.Verb.{Verb}
 use Rattle.lb_cat.specs.Catalog.{Table}
 use Rattle.lb_answer.specs.Answer.{Answered}
-use Rattle.lb_worked.specs.Trees.{tab}
+use Rattle.lb_worked.specs.Trees.{item, tab, from, select, asked}
 use Rattle.lb_worked.specs.Tables.{holding}
 
--- INSERT INTO n VALUES rows
-abbrev pub insert : List ℕ → List (List Expr) → Stmt
-insert n rows = stmts.Insert (record { table = n; columns = None; source = sources.Rows rows })
+-- INSERT INTO n SELECT items FROM m
+abbrev pub insert : List ℕ → List Expr → List ℕ → Stmt
+insert n es m = stmts.Insert (record { table = n; columns = None; source = sources.Query (asked (select (map item es) (from (tab m) ∷ []) None)) })
 
--- INSERT INTO n (columns) VALUES (row)
-abbrev pub insert_into : List ℕ → List (List ℕ) → List Expr → Stmt
-insert_into n columns row = stmts.Insert (record { table = n; columns = Some columns; source = sources.Rows (row ∷ []) })
+-- INSERT INTO n (columns) SELECT items FROM m
+abbrev pub insert_into : List ℕ → List (List ℕ) → List Expr → List ℕ → Stmt
+insert_into n columns es m = stmts.Insert (record { table = n; columns = Some columns; source = sources.Query (asked (select (map item es) (from (tab m) ∷ []) None)) })
 
--- INSERT INTO n query
-abbrev pub insert_query : List ℕ → Select → Stmt
-insert_query n s = stmts.Insert (record { table = n; columns = None; source = sources.Query s })
+-- INSERT INTO n SELECT e FROM m WHERE c
+abbrev pub insert_where : List ℕ → Expr → List ℕ → Cond → Stmt
+insert_where n e m c = stmts.Insert (record { table = n; columns = None; source = sources.Query (asked (select (item e ∷ []) (from (tab m) ∷ []) (Some c))) })
 
 -- UPDATE n SET column = e WHERE c
 abbrev pub update : List ℕ → List ℕ → Expr → Option Cond → Stmt

@@ -6,6 +6,7 @@ pub mod Sure
 pub mod Orders
 pub mod Permitted
 pub mod Masked
+pub mod Edges
 pub mod Labelled
 pub mod Written
 pub mod Stored

@@ -56,8 +56,12 @@ t = record (plain (codes "T") (record (column (codes "ID") types.Int) { not_null
 abbrev pub e : Table
 e = record (plain (codes "E") (column (codes "NAME") (types.Text 10) ∷ record (column (codes "PAY") types.Int) { secured = Some (codes "FULL") } ∷ [])) { policy = Some (codes "P") }
 
+-- ONE (A BIGINT), of one row
+abbrev pub single : Table
+single = plain (codes "ONE") (column (codes "A") types.Int ∷ [])
+
 abbrev pub cat : Bool → Cat
-cat restrict = record (with_tables (t ∷ e ∷ [])) { policies = policy restrict ∷ []; users = users }
+cat restrict = record (with_tables (t ∷ e ∷ single ∷ [])) { policies = policy restrict ∷ []; users = users }
 
 abbrev pub label : ℕ → ℕ → ℕ → Value
 label a b c = values.Label (record { items = parts a b c })

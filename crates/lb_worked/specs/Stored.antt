@@ -9,7 +9,7 @@ use Rattle.lb_cat.specs.declared.refusal.Refusal.TheVariants as refusals
 use Rattle.lb_cat.specs.declared.reply.Verb.TheVariants as verbs
 use Rattle.lb_answer.specs.Answer.{Answered}
 use Rattle.lb_worked.specs.Changes.{insert, insert_into, update, wrote, refused}
-use Rattle.lb_worked.specs.Policy.{cat, t, e, row, label}
+use Rattle.lb_worked.specs.Policy.{cat, t, e, single, row, label}
 use Rattle.lb_worked.specs.Trees.{atom, col, int, text, equal, in_list}
 use Rattle.lb_worked.specs.Tables.{holding, number, word, answered}
 
@@ -28,7 +28,7 @@ all = one ∷ two ∷ three ∷ []
 
 -- what a write to T is answered where the policy says RESTRICT, or OVERRIDE
 abbrev pub to_t : Bool → List ℕ → Stmt → Answered
-to_t restrict user s = answered (cat restrict) (holding t all ∷ holding e [] ∷ []) user s
+to_t restrict user s = answered (cat restrict) (holding t all ∷ holding e [] ∷ holding single ((number 1 ∷ []) ∷ []) ∷ []) user s
 
 -- SECLABEL('P', text)
 abbrev pub seclabel : List ℕ → Expr
@@ -50,26 +50,26 @@ NullIsNotGiven = to_t true (codes "ANN") (update (codes "T") (codes "L") (atom a
 abbrev pub ReadableNotWritable : Type 0
 ReadableNotWritable = to_t true (codes "ANN") (update (codes "T") (codes "V") (text (codes "z")) (Some (in_list (col (codes "ID")) (int 1 ∷ int 3 ∷ [])))) ≡ refused (refusals.RowWrite (codes "LEVEL") rules.WriteDown)
 
--- INSERT INTO T VALUES (8, 'h', SECLABEL('P', 'LOW:IT:EU')): LEVEL fails before DEPT
+-- INSERT INTO T SELECT 8, 'h', SECLABEL('P', 'LOW:IT:EU') FROM ONE: LEVEL fails before DEPT
 abbrev pub FirstComponent : Type 0
-FirstComponent = to_t true (codes "ANN") (insert (codes "T") ((int 8 ∷ text (codes "h") ∷ seclabel (codes "LOW:IT:EU") ∷ []) ∷ [])) ≡ refused (refusals.LabelWrite (codes "LEVEL") rules.WriteDown)
+FirstComponent = to_t true (codes "ANN") (insert (codes "T") (int 8 ∷ text (codes "h") ∷ seclabel (codes "LOW:IT:EU") ∷ []) (codes "ONE")) ≡ refused (refusals.LabelWrite (codes "LEVEL") rules.WriteDown)
 
 -- where the policy says OVERRIDE, the session's own label is stored
 abbrev pub Overridden : Type 0
-Overridden = to_t false (codes "ANN") (insert (codes "T") ((int 8 ∷ text (codes "h") ∷ seclabel (codes "LOW:IT:EU") ∷ []) ∷ [])) ≡ wrote verbs.Inserted 1 t (all ++ (row 8 (codes "h") (label 2 1 2) ∷ []))
+Overridden = to_t false (codes "ANN") (insert (codes "T") (int 8 ∷ text (codes "h") ∷ seclabel (codes "LOW:IT:EU") ∷ []) (codes "ONE")) ≡ wrote verbs.Inserted 1 t (all ++ (row 8 (codes "h") (label 2 1 2) ∷ []))
 
 -- EVE holds no label for writing: a label that she can write is stored as it is given
 abbrev pub GivenWithoutLabel : Type 0
-GivenWithoutLabel = to_t true (codes "EVE") (insert (codes "T") ((int 9 ∷ text (codes "x") ∷ seclabel (codes "():():()") ∷ []) ∷ [])) ≡ wrote verbs.Inserted 1 t (all ++ (row 9 (codes "x") (label 0 0 0) ∷ []))
+GivenWithoutLabel = to_t true (codes "EVE") (insert (codes "T") (int 9 ∷ text (codes "x") ∷ seclabel (codes "():():()") ∷ []) (codes "ONE")) ≡ wrote verbs.Inserted 1 t (all ++ (row 9 (codes "x") (label 0 0 0) ∷ []))
 
 -- but she has none to be stored where null is given
 abbrev pub NoOwnLabel : Type 0
-NoOwnLabel = to_t true (codes "EVE") (insert (codes "T") ((int 9 ∷ text (codes "x") ∷ atom atoms.Null ∷ []) ∷ [])) ≡ refused (refusals.NoWriteLabel (codes "P"))
+NoOwnLabel = to_t true (codes "EVE") (insert (codes "T") (int 9 ∷ text (codes "x") ∷ atom atoms.Null ∷ []) (codes "ONE")) ≡ refused (refusals.NoWriteLabel (codes "P"))
 
--- INSERT INTO T (ID, V) VALUES (2, 'x'), by ANN: a key is taken by a row that she doesn't see
+-- INSERT INTO T (ID, V) SELECT 2, 'x' FROM ONE, by ANN: a key is taken by a row that she doesn't see
 abbrev pub HiddenKey : Type 0
-HiddenKey = to_t true (codes "ANN") (insert_into (codes "T") (codes "ID" ∷ codes "V" ∷ []) (int 2 ∷ text (codes "x") ∷ [])) ≡ refused (refusals.DuplicateKey (codes "T"))
+HiddenKey = to_t true (codes "ANN") (insert_into (codes "T") (codes "ID" ∷ codes "V" ∷ []) (int 2 ∷ text (codes "x") ∷ []) (codes "ONE")) ≡ refused (refusals.DuplicateKey (codes "T"))
 
--- INSERT INTO E VALUES ('y', 1), by ANN: PAY is given, and she can't write it
+-- INSERT INTO E SELECT 'y', 1 FROM ONE, by ANN: PAY is given, and she can't write it
 abbrev pub SecuredColumn : Type 0
-SecuredColumn = to_t true (codes "ANN") (insert (codes "E") ((text (codes "y") ∷ int 1 ∷ []) ∷ [])) ≡ refused (refusals.ColumnWrite (codes "PAY") (codes "LEVEL") rules.WriteUp)
+SecuredColumn = to_t true (codes "ANN") (insert (codes "E") (text (codes "y") ∷ int 1 ∷ []) (codes "ONE")) ≡ refused (refusals.ColumnWrite (codes "PAY") (codes "LEVEL") rules.WriteUp)

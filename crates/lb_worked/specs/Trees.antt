@@ -62,10 +62,6 @@ aggregate op e = roll-Expr (layers.Expr-F.Aggregate op e)
 abbrev pub count_rows : Expr
 count_rows = atom atoms.CountRows
 
--- SUBSTR(t, s)
-abbrev pub substr : Expr → Expr → Expr
-substr t s = roll-Expr (layers.Expr-F.Substr t s None)
-
 -- ---- conditions
 
 abbrev pub compare : Comparison → Expr → Expr → Cond

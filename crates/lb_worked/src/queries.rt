@@ -1,6 +1,7 @@
 // Queries, computed.
 ghost use Rattle.lb_worked.specs.Sure.{SurePartFirst, StopsAtUnknown, UnderNot, NotSure, InCase};
 ghost use Rattle.lb_worked.specs.Orders.{OutputsLast, LastFirst, DistinctFirst, KeysBeforeCut, InStops, BetweenStops, CoalesceStops, ScalarEvaluatesAll, ScalarHasOneRow, ExistsHasNoOutputs, LeftJoinNulls};
+ghost use Rattle.lb_worked.specs.Edges.{AtLimit, BeyondLimit, BeforeFirst, BeyondLast, FarBeyond};
 
 /// WHERE tests the parts without arithmetic and subqueries first, and stops at the first that isn't true.
 pub fn sure_parts_come_first()
@@ -24,4 +25,13 @@ pub fn work_goes_in_order()
     ensures scalar_has_one_row { ScalarHasOneRow }
     ensures exists_has_no_outputs { ExistsHasNoOutputs }
     ensures left_join_nulls { LeftJoinNulls }
+{}
+
+/// The limit of kept rows is exact, and SUBSTR counts places over unbounded integers.
+pub fn edges_are_exact()
+    ensures at_limit { AtLimit }
+    ensures beyond_limit { BeyondLimit }
+    ensures before_first { BeforeFirst }
+    ensures beyond_last { BeyondLast }
+    ensures far_beyond { FarBeyond }
 {}

@@ -1,5 +1,5 @@
 // Writes, computed.
-ghost use Rattle.lb_worked.specs.Written.{DoubledKey, KeysAfterRows, KeysOfNewRows, KeepsPlaces, LeavesOthers, GoesLast, RowByRow, NoPermission, MaskedSource, OwnValues};
+ghost use Rattle.lb_worked.specs.Written.{DoubledKey, KeysAfterRows, KeysOfNewRows, KeepsPlaces, LeavesOthers, GoLast, RowByRow, NoPermission, MaskedSource, OwnValues};
 ghost use Rattle.lb_worked.specs.Stored.{TakesOwnLabel, KeepsLabel, NullIsNotGiven, ReadableNotWritable, FirstComponent, Overridden, GivenWithoutLabel, NoOwnLabel, HiddenKey, SecuredColumn};
 
 /// Each row goes through its checks in order before the next one, and keys are compared after all rows.
@@ -9,7 +9,7 @@ pub fn writes_go_row_by_row()
     ensures keys_of_new_rows { KeysOfNewRows }
     ensures keeps_places { KeepsPlaces }
     ensures leaves_others { LeavesOthers }
-    ensures goes_last { GoesLast }
+    ensures go_last { GoLast }
     ensures row_by_row { RowByRow }
     ensures no_permission { NoPermission }
     ensures masked_source { MaskedSource }

@@ -1,4 +1,4 @@
-use Rattle.lb_worked.proofs.Written.{doubled_key, keys_after_rows, keys_of_new_rows, keeps_places, leaves_others, goes_last, row_by_row, no_permission, masked_source, own_values}
+use Rattle.lb_worked.proofs.Written.{doubled_key, keys_after_rows, keys_of_new_rows, keeps_places, leaves_others, go_last, row_by_row, no_permission, masked_source, own_values}
 use Rattle.lb_worked.proofs.writes.writes_go_row_by_row.Goals as goal
 
 pub returns-clause-doubled_key : goal.returns-clause-doubled_key
@@ -16,8 +16,8 @@ returns-clause-keeps_places c = keeps_places
 pub returns-clause-leaves_others : goal.returns-clause-leaves_others
 returns-clause-leaves_others c = leaves_others
 
-pub returns-clause-goes_last : goal.returns-clause-goes_last
-returns-clause-goes_last c = goes_last
+pub returns-clause-go_last : goal.returns-clause-go_last
+returns-clause-go_last c = go_last
 
 pub returns-clause-row_by_row : goal.returns-clause-row_by_row
 returns-clause-row_by_row c = row_by_row
