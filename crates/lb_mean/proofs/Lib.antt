@@ -1,0 +1,4 @@
+mod Framed
+mod Agreeing
+mod Meant
+mod Seen
