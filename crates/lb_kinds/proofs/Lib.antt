@@ -1,2 +1,5 @@
 mod Results
 mod Lookups
+mod Values
+mod Labels
+mod Shares
