@@ -3,3 +3,6 @@ mod Lookups
 mod Values
 mod Labels
 mod Shares
+mod Typings
+mod Nodes
+mod Aggregated
