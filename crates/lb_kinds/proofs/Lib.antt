@@ -6,3 +6,5 @@ mod Shares
 mod Typings
 mod Nodes
 mod Aggregated
+mod Leaves
+mod Expressions

@@ -3,4 +3,4 @@
 
 mod laws;
 
-pub use laws::columns_give_values_of_their_kind;
+pub use laws::{columns_give_values_of_their_kind, typed_expressions_give_values_of_their_kind};
