@@ -8,3 +8,5 @@ mod Nodes
 mod Aggregated
 mod Leaves
 mod Expressions
+mod Rows
+mod Trees
