@@ -1,0 +1,12 @@
+mod Results
+mod Lookups
+mod Values
+mod Labels
+mod Shares
+mod Typings
+mod Nodes
+mod Aggregated
+mod Leaves
+mod Expressions
+mod Rows
+mod Trees

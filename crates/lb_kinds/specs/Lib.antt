@@ -1,0 +1,5 @@
+pub mod HasKind
+pub mod Days
+pub mod Agreement
+pub mod Standing
+pub mod Laws
