@@ -266,19 +266,21 @@ drop_policy_stays C T m = done_stays C _ T _ _ at
     at (keys.Component n) h = (refl, tt)
     at (keys.User n) h = (mapped_stays (without_holding m) (has_holding_of m) (λ u. refl) (λ u e. ap (λ hs. record u { held = hs }) (kept_all (is_holding_of m) u.held e)) n C.users h, tt)
 
--- ---- each statement
+-- ---- statements without lines of their own
 
-grant_to_stays : (C : Cat) (T : Tables) (t : Table) (rs : List Privilege) (to : Grantee) → Stays C T (grant_to C T t rs to)
-grant_to_stays C T t rs (grantees.User n) = grants_stay C T n (with_user_privileges true rs t.name) (λ u. refl)
-grant_to_stays C T t rs grantees.Public = alters_stays C T (with_public true rs t)
+grant_to_stays : (C : Cat) (T : Tables) (t : Table) (ps : List Privilege) (to : Grantee) → Stays C T (grant_to C T t ps to)
+grant_to_stays C T t ps (grantees.User n) = grants_stay C T n (with_user_privileges true ps t.name) (λ u. refl)
+grant_to_stays C T t ps grantees.Public = alters_stays C T (with_public true ps t)
 
-revoke_from_stays : (C : Cat) (T : Tables) (t : Table) (rs : List Privilege) (to : Grantee) → Stays C T (revoke_from C T t rs to)
-revoke_from_stays C T t rs (grantees.User n) = revokes_stay C T n (with_user_privileges false rs t.name) (λ u. refl)
-revoke_from_stays C T t rs grantees.Public = alters_stays C T (with_public false rs t)
+revoke_from_stays : (C : Cat) (T : Tables) (t : Table) (ps : List Privilege) (to : Grantee) → Stays C T (revoke_from C T t ps to)
+revoke_from_stays C T t ps (grantees.User n) = revokes_stay C T n (with_user_privileges false ps t.name) (λ u. refl)
+revoke_from_stays C T t ps grantees.Public = alters_stays C T (with_public false ps t)
 
 with_role_name : (n : List ℕ) (u : User) → (with_role n u).name ≡ u.name
 with_role_name n u =
     elim (has_role_of n u) as (λ b. (cond b u (record u { roles = u.roles ++ n ∷ [] })).name ≡ u.name) [ true ↦ refl | false ↦ refl ]
+
+-- ---- each statement
 
 create_table_stays : (C : Cat) (T : Tables) (user : List ℕ) (n : List ℕ) (es : List Element) (policy : Option (List ℕ)) → Stays C T (create_table C T user n es policy)
 create_table_stays C T user n es policy =
@@ -495,15 +497,15 @@ revoke_secadm_stays C T user n =
     test_stays C T (secadm C user) _ (
     revokes_stay C T n (with_secadm false) (λ u. refl))
 
-grant_privileges_stays : (C : Cat) (T : Tables) (user : List ℕ) (rs : List Privilege) (n : List ℕ) (to : Grantee) → Stays C T (grant_privileges C T user rs n to)
-grant_privileges_stays C T user rs n to =
+grant_privileges_stays : (C : Cat) (T : Tables) (user : List ℕ) (ps : List Privilege) (n : List ℕ) (to : Grantee) → Stays C T (grant_privileges C T user ps n to)
+grant_privileges_stays C T user ps n to =
     bind_stays C T (owner C user n) _ (λ t.
-    grant_to_stays C T t rs to)
+    grant_to_stays C T t ps to)
 
-revoke_privileges_stays : (C : Cat) (T : Tables) (user : List ℕ) (rs : List Privilege) (n : List ℕ) (from : Grantee) → Stays C T (revoke_privileges C T user rs n from)
-revoke_privileges_stays C T user rs n from =
+revoke_privileges_stays : (C : Cat) (T : Tables) (user : List ℕ) (ps : List Privilege) (n : List ℕ) (from : Grantee) → Stays C T (revoke_privileges C T user ps n from)
+revoke_privileges_stays C T user ps n from =
     bind_stays C T (owner C user n) _ (λ t.
-    revoke_from_stays C T t rs from)
+    revoke_from_stays C T t ps from)
 
 attempt_stays : (K : Checks) (C : Cat) (T : Tables) (user : List ℕ) (s : Change) → Stays C T (attempt K C T user s)
 attempt_stays K C T user (changes.CreateTable n es policy) = create_table_stays C T user n es policy

@@ -207,30 +207,30 @@ revoke_secadm C T user n = do
 
 -- the table with privileges of every user given or taken
 abbrev pub with_public : Bool → List Privilege → Table → Table
-with_public given rs t = record t { public = with_privileges given rs t.public }
+with_public given ps t = record t { public = with_privileges given ps t.public }
 
 -- the user with privileges on the table given or taken
 abbrev pub with_user_privileges : Bool → List Privilege → List ℕ → User → User
-with_user_privileges given rs table u = with_granted table (with_privileges given rs (privileges_on table u)) u
+with_user_privileges given ps table u = with_granted table (with_privileges given ps (privileges_on table u)) u
 
 -- to a user, or to all users
 abbrev pub grant_to : Cat → Tables → Table → List Privilege → Grantee → OrRefused Changed
-grant_to C T t rs (grantees.User n) = grants C T n (with_user_privileges true rs t.name)
-grant_to C T t rs grantees.Public = alters C T (with_public true rs t)
+grant_to C T t ps (grantees.User n) = grants C T n (with_user_privileges true ps t.name)
+grant_to C T t ps grantees.Public = alters C T (with_public true ps t)
 
 -- from a user, or from all users
 abbrev pub revoke_from : Cat → Tables → Table → List Privilege → Grantee → OrRefused Changed
-revoke_from C T t rs (grantees.User n) = revokes C T n (with_user_privileges false rs t.name)
-revoke_from C T t rs grantees.Public = alters C T (with_public false rs t)
+revoke_from C T t ps (grantees.User n) = revokes C T n (with_user_privileges false ps t.name)
+revoke_from C T t ps grantees.Public = alters C T (with_public false ps t)
 
 -- GRANT of privileges on a table
 abbrev pub grant_privileges : Cat → Tables → List ℕ → List Privilege → List ℕ → Grantee → OrRefused Changed
-grant_privileges C T user rs n to = do
+grant_privileges C T user ps n to = do
   t ← owner C user n
-  grant_to C T t rs to
+  grant_to C T t ps to
 
 -- REVOKE of privileges on a table
 abbrev pub revoke_privileges : Cat → Tables → List ℕ → List Privilege → List ℕ → Grantee → OrRefused Changed
-revoke_privileges C T user rs n from = do
+revoke_privileges C T user ps n from = do
   t ← owner C user n
-  revoke_from C T t rs from
+  revoke_from C T t ps from

@@ -27,7 +27,7 @@ use Rattle.lb_alter.specs.Stored.{stored_name, user_of_table}
 
 -- ---- types
 
--- 1 to 254
+-- the width is 1 to 254
 abbrev pub is_width : ℤ → Bool
 is_width (pos n) = nat_le 1 n && nat_le n 254
 is_width (negsuc n) = false

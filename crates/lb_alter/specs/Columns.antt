@@ -9,7 +9,7 @@ use Rattle.lb_cat.specs.Catalog.{Table}
 use Rattle.lb_alter.specs.ChangeTable.{is_label_column}
 use Rattle.lb_alter.specs.Named.{AreDifferent}
 
--- a place of a column
+-- the place is that of a column
 abbrev pub IsPlace : Table → ℕ → Type 0
 IsPlace t at = at < length t.columns
 

@@ -36,15 +36,15 @@ pub record HasOneOfEachName (C : Cat) : Type 0 where
 abbrev pub HasTable : Cat → List ℕ → Type 0
 HasTable C n = is_some (table_named C n) ≡ true
 
--- a policy
+-- a policy of that name is there
 abbrev pub HasPolicy : Cat → List ℕ → Type 0
 HasPolicy C n = is_some (policy_named C n) ≡ true
 
--- a component
+-- a component of that name is there
 abbrev pub HasComponent : Cat → List ℕ → Type 0
 HasComponent C n = is_some (component_named C n) ≡ true
 
--- a role
+-- a role of that name is there
 abbrev pub HasRole : Cat → List ℕ → Type 0
 HasRole C n = has_role C n ≡ true
 
@@ -79,11 +79,11 @@ pub record NamesRecords (C : Cat) : Type 0 where
 abbrev pub HasFoldedNames : Cat → Type 0
 HasFoldedNames C = AllByRecursion (λ (p : Policy). IsFolded p.name) C.policies
 
--- a subquery of a permission or a mask reads neither its own table nor one with a label column
+-- the table may be read by a subquery of a permission or mask: it is neither the protected table nor one with a label column
 abbrev pub IsGoodSource : Cat → List ℕ → List ℕ → Type 0
 IsGoodSource C own n = is_bad_source C own n ≡ false
 
--- so do all permissions and masks of the table
+-- the permissions and masks of the table read such tables alone
 abbrev pub ReadsGoodSources : Cat → Table → Type 0
 ReadsGoodSources C t = AllByRecursion (IsGoodSource C t.name) (tables_in (mentioned_in t))
 
