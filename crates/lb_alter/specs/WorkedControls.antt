@@ -44,13 +44,17 @@ asks_policy = conds.IsNull (exprs.Atom (atoms.SecLabel (codes "Q") (codes "()"))
 abbrev pub zero_value : Expr
 zero_value = exprs.Atom (atoms.Int (pos 0))
 
--- the permission ONE and the mask HIDE
+-- the label X of the policy Q, by its name
+abbrev pub names_label : Expr
+names_label = exprs.Atom (atoms.SecLabelByName (codes "Q") (codes "X"))
+
+-- the permission ONE, on CUST
 abbrev pub one : PermissionRec
 one = record { name = codes "ONE"; correlation = codes "CUST"; condition = asks_policy; enabled = false }
 
 -- the mask HIDE, on the second column
 abbrev pub hide : MaskRec
-hide = record { name = codes "HIDE"; column = 1; correlation = codes "CUST"; value = zero_value; enabled = true }
+hide = record { name = codes "HIDE"; column = 1; correlation = codes "CUST"; value = names_label; enabled = true }
 
 -- TELLER, with the column PAY
 abbrev pub teller : Table
@@ -140,10 +144,14 @@ pub record AreInUse (K : Checks) : Type 0 where
   pub labelled : Answers (used K) K admin (changes.DropPolicy (codes "Q")) (refused (refusals.InUse (codes "Q") (codes "X")))
   pub column : Answers (used K) K admin (changes.DropLabel (label (codes "P") (codes "MHE"))) (refused (refusals.InUse (codes "MHE") (codes "W")))
 
--- the shop with the policy Q, which the permission ONE calls
+-- the shop with the policy Q, which the permission ONE calls, and its label X, which the mask HIDE names
 abbrev pub calling : Cat
-calling = record shop { policies = record { name = codes "Q"; components = []; shape = []; restrict = false; labels = [] } ∷ [] }
+calling = record shop { policies = record { name = codes "Q"; components = []; shape = []; restrict = false; labels = record { name = codes "X"; parts = record { items = [] } } ∷ [] } ∷ [] }
 
 -- a policy is in use by a table whose permission calls it
 abbrev pub CalledIsInUse : Checks → Type 0
 CalledIsInUse K = Answers calling K admin (changes.DropPolicy (codes "Q")) (refused (refusals.InUse (codes "Q") (codes "CUST")))
+
+-- a label is in use by a table whose mask names it
+abbrev pub NamedIsInUse : Checks → Type 0
+NamedIsInUse K = Answers calling K admin (changes.DropLabel (label (codes "Q") (codes "X"))) (refused (refusals.InUse (codes "X") (codes "CUST")))

@@ -13,7 +13,7 @@ ghost use Rattle.lb_alter.specs.Stored.{Checks};
 ghost use Rattle.lb_alter.specs.WorkedControls.{
   AreInUse,
   CalledIsInUse,
-  MasksAreRefused,
+  MasksAreRefused, NamedIsInUse,
   OtherKindIsUnknown,
   PermissionsAreRefused,
   SourcesStandBetween,
@@ -38,6 +38,7 @@ pub fn worked_controls()
     ensures switches { (K : Checks) → Switches K }
     ensures used { (K : Checks) → AreInUse K }
     ensures called { (K : Checks) → CalledIsInUse K }
+    ensures named { (K : Checks) → NamedIsInUse K }
 {}
 
 /// A key that a change doesn't touch has the same record and the same rows afterwards.
