@@ -21,7 +21,7 @@ use Rattle.lb_alter.specs.Sound.{IsSound}
 use Rattle.lb_alter.specs.Laws.{FitsFollow}
 use Rattle.lb_alter.proofs.Fitting.{KeepsType, SameShape, itself_zipped, record_moves}
 use Rattle.lb_alter.proofs.SoundUsers.{all_append, all_found, all_mapped_to, once_all}
-use Rattle.lb_alter.proofs.Steady.{all_once, all_front, all_behind, all_mapped, tables_same, policies_same, deps_stay}
+use Rattle.lb_alter.proofs.Steady.{all_once, all_front, all_after, all_mapped, tables_same, policies_same, deps_stay}
 
 -- what holds of each name that a list gives
 module _ (P : List ℕ → Type 0) (f : List ℕ → Option (List ℕ)) where
@@ -101,7 +101,7 @@ module _ (C D : Cat) (c : Cred) (ms : Mentions) (same : SameOn (deps_of C ms) C 
       once_all (CredFitsKey C c) (ts ++ (ps ++ cs))
       (all_append (CredFitsKey C c) ts (ps ++ cs) (all_mapped_to (CredFitsKey C c) (λ n. keys.Table n) (λ n. tt) (tables_for C ms))
       (all_append (CredFitsKey C c) ps cs
-      (all_policies (policies_for C ms) (policies_same C D ms same) (all_mapped (CredFitsKey D c) (λ n. keys.Policy n) (policies_for C ms) (all_front (CredFitsKey D c) ps cs (all_behind (CredFitsKey D c) ts (ps ++ cs) all))))
+      (all_policies (policies_for C ms) (policies_same C D ms same) (all_mapped (CredFitsKey D c) (λ n. keys.Policy n) (policies_for C ms) (all_front (CredFitsKey D c) ps cs (all_after (CredFitsKey D c) ts (ps ++ cs) all))))
       (all_mapped_to (CredFitsKey C c) (λ n. keys.Component n) (λ n. tt) (components_for C ms))))
 
 pub fits_follow : (K : Checks) → FitsFollow K

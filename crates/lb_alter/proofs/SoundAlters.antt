@@ -26,7 +26,7 @@ use Rattle.lb_alter.specs.Stored.{Checks}
 use Rattle.lb_alter.specs.Valid.{IsValid, IsValidMask}
 use Rattle.lb_alter.proofs.SoundGrants.{among_filter, different_filter, found_then, owner_then, table_there, with_user_privileges_sound}
 use Rattle.lb_alter.proofs.SoundParts.{table_names, all_map}
-use Rattle.lb_alter.proofs.SoundTables.{Always, all_always, itself, same_names, names_front, names_behind, refitted, refits_old, refits_sound, retyped}
+use Rattle.lb_alter.proofs.SoundTables.{Always, all_always, itself, same_names, names_front, names_after, refitted, refits_old, refits_sound, retyped}
 use Rattle.lb_alter.proofs.SoundUsers.{LeavesSound, test_sound, grants_sound, revokes_sound, all_filter, and_left, and_right, not_so}
 use Rattle.lb_alter.proofs.Untouched.{or_left, or_right, turned, named_there}
 
@@ -163,7 +163,7 @@ module _ (K : Checks) (steady : IsSteady K) (C : Cat) (T : Tables) (s : IsSound 
       let kept : PermissionRec → Bool = λ (p : PermissionRec). not (is_permission n p) in
       test_sound K (secadm C user) _ (λ _. found_then K n (find (has_permission n) C.tables) _
       (λ t e. refits_sound K steady C T s t (named_too (has_permission n) t e) t.row_control t.column_control t.public (filter kept t.permissions) t.masks
-      (names_behind Always (map (λ m. m.name) t.masks) _ (map (λ p. p.name) t.permissions) (all_always _)
+      (names_after Always (map (λ m. m.name) t.masks) _ (map (λ p. p.name) t.permissions) (all_always _)
       (record { among = λ m _ i. among_filter (λ (p : PermissionRec). p.name) kept m t.permissions i; different = different_filter (λ (p : PermissionRec). p.name) kept t.permissions }))
       (λ h. record {
         permissions = all_filter _ kept t.permissions h.permissions;

@@ -25,9 +25,9 @@ use Rattle.lb_alter.specs.Stored.{Checks, Stored, stored_in, stored_name, mentio
 use Rattle.lb_alter.proofs.SoundGrants.{different_filter, found_then, owner_then}
 use Rattle.lb_alter.proofs.SoundKinds.{none_found, not_in_use, all_there, policy_there, components_there}
 use Rattle.lb_alter.proofs.SoundParts.{Stands, InPermissions, InMasks, stored_apart, stored_together, TableIsSound, PolicyIsSound, Parts, apart, together, table_names, Reads, reads_kept, stored_moves, all_map, Sources, folded_of, source_stands}
-use Rattle.lb_alter.proofs.SoundTables.{Always, all_always, Names, names_front, among_behind, different_behind, belonging_follows, same_without, there_without, StaysPlain, found_without, neither}
+use Rattle.lb_alter.proofs.SoundTables.{Always, all_always, Names, names_front, among_after, different_after, belonging_follows, same_without, there_without, StaysPlain, found_without, neither}
 use Rattle.lb_alter.proofs.SoundUsers.{UserIsSound, LeavesSound, test_sound, done_sound, all_filter, all_follow, all_found, all_append, not_so}
-use Rattle.lb_alter.proofs.Steady.{all_front, all_behind}
+use Rattle.lb_alter.proofs.Steady.{all_front, all_after}
 use Rattle.lb_alter.proofs.Untouched.{or_left, or_right, turned, without_other}
 use Rattle.lb_base.specs.Names.{IsFolded}
 use Rattle.std.proofs.lemmas.Slice.Eq.{bytes_eq-Decides}
@@ -54,7 +54,7 @@ names_filter test (x ∷ xs) =
       | true ↦ names_front Always (table_names x) _ (flat_map table_names xs) (all_always (table_names x)) (names_filter test xs)
       | false ↦
           let r : Names Always (flat_map table_names (filter test xs)) (flat_map table_names xs) = names_filter test xs in
-          record { among = λ n _ h. r.among n tt (among_behind (table_names x) _ n h); different = λ h. r.different (different_behind (table_names x) _ h) }
+          record { among = λ n _ h. r.among n tt (among_after (table_names x) _ n h); different = λ h. r.different (different_after (table_names x) _ h) }
     ]
 
 fewer_left : {A : Type 0} (test : A → Bool) (xs : List A) (n : ℕ) → length xs ≤ n → length (filter test xs) ≤ n
@@ -70,7 +70,7 @@ fewer_left test xs n h = let i : length (filter test xs) ≤ length xs = fewer t
 
 all_flat_apart : {A B : Type 0} (P : B → Type 0) (f : A → List B) (xs : List A) → AllByRecursion P (flat_map f xs) → AllByRecursion (λ (x : A). AllByRecursion P (f x)) xs
 all_flat_apart P f [] h = tt
-all_flat_apart P f (x ∷ xs) h = (all_front P (f x) _ h, all_flat_apart P f xs (all_behind P (f x) _ h))
+all_flat_apart P f (x ∷ xs) h = (all_front P (f x) _ h, all_flat_apart P f xs (all_after P (f x) _ h))
 
 module _ (K : Checks) (steady : IsSteady K) (C : Cat) (T : Tables) (s : IsSound K C) (n : List ℕ) where
   p : Parts K C
@@ -226,7 +226,7 @@ module _ (K : Checks) (steady : IsSteady K) (C : Cat) (T : Tables) (s : IsSound 
   stored_left : (own : List ℕ) (xs : List Stored) → AllByRecursion (λ (x : Stored). names_table n x ≡ false) xs → AllByRecursion (Sources C own) (flat_map mentions_of xs) → AllByRecursion (Sources NoTable own) (flat_map mentions_of xs)
   stored_left own [] e h = tt
   stored_left own (x ∷ xs) e h =
-      all_append (Sources NoTable own) x.mentions (flat_map mentions_of xs) (mentions_left own x.mentions e.0 (all_front (Sources C own) x.mentions _ h)) (stored_left own xs e.1 (all_behind (Sources C own) x.mentions _ h))
+      all_append (Sources NoTable own) x.mentions (flat_map mentions_of xs) (mentions_left own x.mentions e.0 (all_front (Sources C own) x.mentions _ h)) (stored_left own xs e.1 (all_after (Sources C own) x.mentions _ h))
 
   still_stands : (own : List ℕ) (ms : Mentions) → AllByRecursion (Sources NoTable own) ms → AllByRecursion (Stands NoTable) ms
   still_stands own ms h = all_follow (Sources NoTable own) (Stands NoTable) (source_stands NoTable own) ms h

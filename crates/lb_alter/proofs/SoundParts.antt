@@ -22,7 +22,7 @@ use Rattle.lb_alter.specs.Steady.{stored_deps, IsSteady}
 use Rattle.lb_alter.specs.Stored.{Checks, Stored, stored_in, stored_name, stored_permission, stored_mask, mentions_of, mentioned_in}
 use Rattle.lb_alter.specs.Valid.{IsValid, TypesAt, IsValidMask, StoresValid, called, KeepsRules, KeepsMaskRules}
 use Rattle.lb_alter.proofs.SoundUsers.{UserIsSound, all_append, all_filter, all_follow, once_all}
-use Rattle.lb_alter.proofs.Steady.{all_front, all_behind}
+use Rattle.lb_alter.proofs.Steady.{all_front, all_after}
 use Rattle.lb_base.specs.Names.{IsFolded}
 
 -- ---- mentions
@@ -82,12 +82,12 @@ module _ (G : Mention → Type 0) where
   permissions_apart : (ps : List PermissionRec) (rest : List Stored) → AllByRecursion G (flat_map mentions_of (map stored_permission ps ++ rest)) → InPermissions G ps × AllByRecursion G (flat_map mentions_of rest)
   permissions_apart [] rest h = (tt, h)
   permissions_apart (p ∷ ps) rest h =
-      let r : InPermissions G ps × AllByRecursion G (flat_map mentions_of rest) = permissions_apart ps rest (all_behind G (in_cond p.condition) _ h) in
+      let r : InPermissions G ps × AllByRecursion G (flat_map mentions_of rest) = permissions_apart ps rest (all_after G (in_cond p.condition) _ h) in
       ((all_front G (in_cond p.condition) _ h, r.0), r.1)
 
   masks_apart : (ms : List MaskRec) → AllByRecursion G (flat_map mentions_of (map stored_mask ms)) → InMasks G ms
   masks_apart [] h = tt
-  masks_apart (m ∷ ms) h = (all_front G (in_expr m.value) _ h, masks_apart ms (all_behind G (in_expr m.value) _ h))
+  masks_apart (m ∷ ms) h = (all_front G (in_expr m.value) _ h, masks_apart ms (all_after G (in_expr m.value) _ h))
 
   pub stored_apart : (t : Table) → AllByRecursion G (mentioned_in t) → InPermissions G t.permissions × InMasks G t.masks
   stored_apart t h =
@@ -296,18 +296,18 @@ module _ (C D : Cat) (T P Q : List ℕ → Type 0)
     (stored : (n : List ℕ) → T n → AllByRecursion (Named T P) (in_table (table_named C n)))
     (owned : (n : List ℕ) → T n → IfGiven P (policy_of_table (table_named C n)))
     (made : (n : List ℕ) → P n → AllByRecursion Q (components_of (policy_named C n))) where
-  behind_named : (ns : List (List ℕ)) → AllByRecursion T ns → AllByRecursion (Named T P) (in_tables C ns)
-  behind_named ns h = all_flat T (Named T P) (λ n. in_table (table_named C n)) stored ns h
+  after_named : (ns : List (List ℕ)) → AllByRecursion T ns → AllByRecursion (Named T P) (in_tables C ns)
+  after_named ns h = all_flat T (Named T P) (λ n. in_table (table_named C n)) stored ns h
 
   tables_for_named : (ms : Mentions) → AllByRecursion (Named T P) ms → AllByRecursion T (tables_for C ms)
   tables_for_named ms h =
       let here : AllByRecursion T (tables_in ms) = named_tables T P ms h in
-      all_append T (tables_in ms) _ here (named_tables T P (in_tables C (tables_in ms)) (behind_named (tables_in ms) here))
+      all_append T (tables_in ms) _ here (named_tables T P (in_tables C (tables_in ms)) (after_named (tables_in ms) here))
 
   policies_for_named : (ms : Mentions) → AllByRecursion (Named T P) ms → AllByRecursion P (policies_for C ms)
   policies_for_named ms h =
       all_append P _ _ (all_given T P (λ n. policy_of_table (table_named C n)) owned (tables_for C ms) (tables_for_named ms h))
-      (all_filter P is_key_name _ (all_append P (policies_in ms) _ (named_policies T P ms h) (named_policies T P (in_tables C (tables_in ms)) (behind_named (tables_in ms) (named_tables T P ms h)))))
+      (all_filter P is_key_name _ (all_append P (policies_in ms) _ (named_policies T P ms h) (named_policies T P (in_tables C (tables_in ms)) (after_named (tables_in ms) (named_tables T P ms h)))))
 
   pub deps_kept : (on : Tab) (ms : Mentions) → T on.table → AllByRecursion (Named T P) ms → SameOn (stored_deps C on ms) C D
   deps_kept on ms own h =

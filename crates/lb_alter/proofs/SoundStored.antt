@@ -24,7 +24,7 @@ use Rattle.lb_alter.proofs.SoundGrants.{found_then}
 use Rattle.lb_alter.proofs.SoundKinds.{is_new, none_found}
 use Rattle.lb_alter.proofs.SoundLabels.{any_none}
 use Rattle.lb_alter.proofs.SoundParts.{named_from, together, table_names, IsSource, Sources, all_both}
-use Rattle.lb_alter.proofs.SoundTables.{there_put, Names, names_behind, refitted, refitted_wider, some_column, refitted_sound, put_wider, sources_follow, stays_plain}
+use Rattle.lb_alter.proofs.SoundTables.{there_put, Names, names_after, refitted, refitted_wider, some_column, refitted_sound, put_wider, sources_follow, stays_plain}
 use Rattle.lb_alter.proofs.SoundUsers.{LeavesSound, test_sound, done_sound, all_put, all_follow, all_append, among_put, different_put}
 use Rattle.lb_alter.proofs.Untouched.{or_left, or_right, turned, named_there}
 
@@ -68,7 +68,7 @@ module _ (K : Checks) (steady : IsSteady K) (C : Cat) (T : Tables) (s : IsSound 
 
   names : Names OtherName (table_names Permitted) (table_names t)
   names =
-      names_behind OtherName (map (λ m. m.name) t.masks) (map (λ y. y.name) (put (is_permission d.name) (new_permission K C d) t.permissions)) (map (λ y. y.name) t.permissions)
+      names_after OtherName (map (λ m. m.name) t.masks) (map (λ y. y.name) (put (is_permission d.name) (new_permission K C d) t.permissions)) (map (λ y. y.name) t.permissions)
       (all_other (λ (m : MaskRec). m.name) d.name t.masks (or_left _ _ own))
       (record {
         among = λ n off h. among_put (λ (y : PermissionRec). y.name) (new_permission K C d) n t.permissions h off;

@@ -126,9 +126,9 @@ pub among_front : (xs ys : List (List ℕ)) (n : List ℕ) → is_among (xs ++ y
 among_front [] ys n h = refl
 among_front (x ∷ xs) ys n h = neither (bytes_eq x n) _ (or_left _ _ h) (among_front xs ys n (or_right (bytes_eq x n) _ h))
 
-pub among_behind : (xs ys : List (List ℕ)) (n : List ℕ) → is_among (xs ++ ys) n ≡ false → is_among ys n ≡ false
-among_behind [] ys n h = h
-among_behind (x ∷ xs) ys n h = among_behind xs ys n (or_right (bytes_eq x n) _ h)
+pub among_after : (xs ys : List (List ℕ)) (n : List ℕ) → is_among (xs ++ ys) n ≡ false → is_among ys n ≡ false
+among_after [] ys n h = h
+among_after (x ∷ xs) ys n h = among_after xs ys n (or_right (bytes_eq x n) _ h)
 
 -- none of ys is among xs
 abbrev pub Apart : List (List ℕ) → List (List ℕ) → Type 0
@@ -138,9 +138,9 @@ different_front : (xs ys : List (List ℕ)) → AreDifferent (xs ++ ys) → AreD
 different_front [] ys h = refl
 different_front (x ∷ xs) ys h = both (is_among xs x) _ (among_front xs ys x (not_so _ (and_left _ _ h))) (different_front xs ys (and_right (not (is_among (xs ++ ys) x)) _ h))
 
-pub different_behind : (xs ys : List (List ℕ)) → AreDifferent (xs ++ ys) → AreDifferent ys
-different_behind [] ys h = h
-different_behind (x ∷ xs) ys h = different_behind xs ys (and_right (not (is_among (xs ++ ys) x)) _ h)
+pub different_after : (xs ys : List (List ℕ)) → AreDifferent (xs ++ ys) → AreDifferent ys
+different_after [] ys h = h
+different_after (x ∷ xs) ys h = different_after xs ys (and_right (not (is_among (xs ++ ys) x)) _ h)
 
 off_each : (x : List ℕ) (xs ys : List (List ℕ)) → is_among ys x ≡ false → Apart xs ys → Apart (x ∷ xs) ys
 off_each x xs [] h i = tt
@@ -152,7 +152,7 @@ different_apart [] ys h = all_nothing ys
     all_nothing : (zs : List (List ℕ)) → Apart [] zs
     all_nothing [] = tt
     all_nothing (z ∷ zs) = (refl, all_nothing zs)
-different_apart (x ∷ xs) ys h = off_each x xs ys (among_behind xs ys x (not_so _ (and_left _ _ h))) (different_apart xs ys (and_right (not (is_among (xs ++ ys) x)) _ h))
+different_apart (x ∷ xs) ys h = off_each x xs ys (among_after xs ys x (not_so _ (and_left _ _ h))) (different_apart xs ys (and_right (not (is_among (xs ++ ys) x)) _ h))
 
 off_first : (x : List ℕ) (xs ys : List (List ℕ)) → Apart (x ∷ xs) ys → is_among ys x ≡ false
 off_first x xs [] h = refl
@@ -178,10 +178,10 @@ module _ (Other : List ℕ → Type 0) where
   still_apart xs ys [] o r h = tt
   still_apart xs ys (z ∷ zs) o r h = (r.among z o.0 h.0, still_apart xs ys zs o.1 r h.1)
 
-  pub names_behind : (zs xs ys : List (List ℕ)) → AllByRecursion Other zs → Names Other xs ys → Names Other (xs ++ zs) (ys ++ zs)
-  names_behind zs xs ys o r = record {
-    among = λ n q h. among_joined xs zs n (r.among n q (among_front ys zs n h)) (among_behind ys zs n h);
-    different = λ h. different_joined xs zs (r.different (different_front ys zs h)) (different_behind ys zs h) (still_apart xs ys zs o r (different_apart ys zs h));
+  pub names_after : (zs xs ys : List (List ℕ)) → AllByRecursion Other zs → Names Other xs ys → Names Other (xs ++ zs) (ys ++ zs)
+  names_after zs xs ys o r = record {
+    among = λ n q h. among_joined xs zs n (r.among n q (among_front ys zs n h)) (among_after ys zs n h);
+    different = λ h. different_joined xs zs (r.different (different_front ys zs h)) (different_after ys zs h) (still_apart xs ys zs o r (different_apart ys zs h));
   }
 
   module _ (u : Table) where
@@ -202,7 +202,7 @@ module _ (Other : List ℕ → Type 0) where
           | true ↦ λ same i.
               let is : t ≡ x = cc in
               let off : is_among (map (λ y. y.name) xs) u.name ≡ false = subst (λ (m : List ℕ). is_among (map (λ y. y.name) xs) m ≡ false) ((bytes_eq-Decides x.name u.name).0 same) (not_so _ (and_left _ _ d)) in
-              names_behind (flat_map table_names xs) (table_names u) (table_names x) (all_others xs off o.1) (subst (λ (y : Table). Names Other (table_names u) (table_names y)) is r)
+              names_after (flat_map table_names xs) (table_names u) (table_names x) (all_others xs off o.1) (subst (λ (y : Table). Names Other (table_names u) (table_names y)) is r)
           | false ↦ λ off i. names_front (table_names x) _ _ (o.0 off) (names_put t xs (and_right (not (is_among (map (λ y. y.name) xs) x.name)) _ d) o.1 i r)
         ] refl e
 

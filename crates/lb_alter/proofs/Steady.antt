@@ -40,9 +40,9 @@ module _ {A : Type 0} where
   all_front P [] ys h = tt
   all_front P (x ∷ xs) ys h = (h.0, all_front P xs ys h.1)
 
-  pub all_behind : (P : A → Type 0) (xs ys : List A) → AllByRecursion P (xs ++ ys) → AllByRecursion P ys
-  all_behind P [] ys h = h
-  all_behind P (x ∷ xs) ys h = all_behind P xs ys h.1
+  pub all_after : (P : A → Type 0) (xs ys : List A) → AllByRecursion P (xs ++ ys) → AllByRecursion P ys
+  all_after P [] ys h = h
+  all_after P (x ∷ xs) ys h = all_after P xs ys h.1
 
   pub all_mapped : {B : Type 0} (P : B → Type 0) (f : A → B) (xs : List A) → AllByRecursion P (map f xs) → AllByRecursion (λ x. P (f x)) xs
   all_mapped P f [] h = tt
@@ -70,19 +70,19 @@ module _ (C D : Cat) (ms : Mentions) (same : SameOn (deps_of C ms) C D) where
 
   pub policies_same : AllByRecursion (λ (n : List ℕ). policy_named D n ≡ policy_named C n) (policies_for C ms)
   policies_same = all_mapped (SameRecord C D) (λ n. keys.Policy n) (policies_for C ms)
-      (all_front (SameRecord C D) (map (λ n. keys.Policy n) (policies_for C ms)) _ (all_behind (SameRecord C D) (map (λ n. keys.Table n) (tables_for C ms)) _ all_keys))
+      (all_front (SameRecord C D) (map (λ n. keys.Policy n) (policies_for C ms)) _ (all_after (SameRecord C D) (map (λ n. keys.Table n) (tables_for C ms)) _ all_keys))
 
-  behind_same : in_tables D (tables_in ms) ≡ in_tables C (tables_in ms)
-  behind_same = same_flat (table_named D) (table_named C) in_table (tables_in ms) (all_front (λ (n : List ℕ). table_named D n ≡ table_named C n) (tables_in ms) _ tables_same)
+  after_same : in_tables D (tables_in ms) ≡ in_tables C (tables_in ms)
+  after_same = same_flat (table_named D) (table_named C) in_table (tables_in ms) (all_front (λ (n : List ℕ). table_named D n ≡ table_named C n) (tables_in ms) _ tables_same)
 
   tables_for_same : tables_for D ms ≡ tables_for C ms
-  tables_for_same = ap (λ (b : Mentions). tables_in ms ++ tables_in b) behind_same
+  tables_for_same = ap (λ (b : Mentions). tables_in ms ++ tables_in b) after_same
 
   policies_for_same : policies_for D ms ≡ policies_for C ms
   policies_for_same =
       ap (λ (ts : List (List ℕ)). filter_map (λ n. policy_of_table (table_named D n)) ts ++ filter is_key_name (policies_in ms ++ policies_in (in_tables D (tables_in ms)))) tables_for_same
       ∙ ap (λ (ps : List (List ℕ)). ps ++ filter is_key_name (policies_in ms ++ policies_in (in_tables D (tables_in ms)))) (same_filtered (table_named D) (table_named C) policy_of_table (tables_for C ms) tables_same)
-      ∙ ap (λ (b : Mentions). filter_map (λ n. policy_of_table (table_named C n)) (tables_for C ms) ++ filter is_key_name (policies_in ms ++ policies_in b)) behind_same
+      ∙ ap (λ (b : Mentions). filter_map (λ n. policy_of_table (table_named C n)) (tables_for C ms) ++ filter is_key_name (policies_in ms ++ policies_in b)) after_same
 
   components_for_same : components_for D ms ≡ components_for C ms
   components_for_same =

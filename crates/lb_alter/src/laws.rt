@@ -13,7 +13,8 @@ ghost use Rattle.lb_alter.specs.Stored.{Checks};
 ghost use Rattle.lb_alter.specs.WorkedControls.{
   AreInUse,
   CalledIsInUse,
-  MasksAreRefused, NamedIsInUse,
+  MasksAreRefused,
+  NamedIsInUse,
   OtherKindIsUnknown,
   PermissionsAreRefused,
   SourcesStandBetween,

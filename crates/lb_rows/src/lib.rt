@@ -4,5 +4,5 @@
 mod snap;
 mod version;
 
-pub use snap::{Snap, Standing, TABLE_LIMIT};
+pub use snap::{Snap, StampedVersion, TABLE_LIMIT};
 pub use version::{CHUNK_LIMIT, TableVersion};

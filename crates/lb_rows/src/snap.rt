@@ -9,7 +9,7 @@ pub const TABLE_LIMIT: usize = 64;
 
 /// The version of a table that stands, and its stamp: one more than the place of the last entry that touched its rows.
 #[derive(Drop)]
-pub struct Standing {
+pub struct StampedVersion {
     pub version: Arc<TableVersion>,
     pub stamp: u64,
 }
@@ -17,7 +17,7 @@ pub struct Standing {
 /// The rows of all tables, at most 64, each with its stamp. Contracts see the list of the versions with their stamps.
 #[derive(Drop)]
 pub struct Snap {
-    standing: ArrayVec<Standing, { TABLE_LIMIT }>,
+    versions: ArrayVec<StampedVersion, { TABLE_LIMIT }>,
 }
 
 impl Model for Snap {
@@ -28,5 +28,5 @@ impl Model for Snap {
 
     ghost use Rattle.lb_rows.specs.Stamped.{stamped_in};
 
-    ghost view = { λ s. stamped_in s.standing.items };
+    ghost view = { λ s. stamped_in s.versions.items };
 }
