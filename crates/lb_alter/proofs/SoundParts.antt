@@ -243,7 +243,7 @@ module _ (K : Checks) (C : Cat) where
 -- conditions on tables of this kind, which name only such things, stay right
 pub record Reads (K : Checks) (C D : Cat) (Own : List ℕ → Type 0) (G : Mention → Type 0) : Type 0 where
   pub condition : (on : Tab) (c : Cond) → Own on.table → AllByRecursion G (in_cond c) → K.is_qualified c ≡ true → KeepsRules K C on c → KeepsRules K D on c
-  pub mask : (on : Tab) (ty : Ty) (e : Expr) → Own on.table → AllByRecursion G (in_expr e) → K.is_qualified_mask e ≡ true → KeepsMaskRules K C on ty e → KeepsMaskRules K D on ty e
+  pub mask : (on : Tab) (column : List ℕ) (e : Expr) → Own on.table → AllByRecursion G (in_expr e) → K.is_qualified_mask e ≡ true → KeepsMaskRules K C on column e → KeepsMaskRules K D on column e
 
 module _ (K : Checks) (C D : Cat) (Own : List ℕ → Type 0) (G : Mention → Type 0) (r : Reads K C D Own G) (t : Table) (own : Own t.name) where
   permissions_move : (ps : List PermissionRec) → InPermissions G ps → AllByRecursion (IsValid K C t) ps → AllByRecursion (IsValid K D t) ps
@@ -256,7 +256,7 @@ module _ (K : Checks) (C D : Cat) (Own : List ℕ → Type 0) (G : Mention → T
       → (K.mask_names D (called t m.correlation) m.value ≡ None) × TypesAt K D t m c
   type_moves m None g q h i = absurd i
   type_moves m (Some c) g q h i =
-      let x : KeepsMaskRules K D (called t m.correlation) c.ty m.value = r.mask (called t m.correlation) c.ty m.value own g q (record { names = h; types = i.0 }) in
+      let x : KeepsMaskRules K D (called t m.correlation) c.name m.value = r.mask (called t m.correlation) c.name m.value own g q (record { names = h; types = i.0 }) in
       (x.names, (x.types, i.1))
 
   masks_move : (ms : List MaskRec) → InMasks G ms → AllByRecursion (IsValidMask K C t) ms → AllByRecursion (IsValidMask K D t) ms

@@ -18,9 +18,9 @@ pub record Checks : Type 0 where
   -- the first refusal of a name
   pub condition_names : Cat → Tab → Cond → Option Refusal
   pub mask_names : Cat → Tab → Expr → Option Refusal
-  -- the first refusal of a type; a CASE has the type of its column, which isn't a label
+  -- the first refusal of a type; the CASE of a mask has the type of the column with that name, which isn't a label
   pub condition_types : Cat → Tab → Cond → Option Refusal
-  pub mask_types : Cat → Tab → Ty → Expr → Option Refusal
+  pub mask_types : Cat → Tab → List ℕ → Expr → Option Refusal
   -- the same with each column qualified
   pub qualified_condition : Cat → Tab → Cond → Cond
   pub qualified_mask : Cat → Tab → Expr → Expr

@@ -21,10 +21,10 @@ pub record KeepsRules (K : Checks) (C : Cat) (on : Tab) (c : Cond) : Type 0 wher
   pub names : K.condition_names C on c ≡ None
   pub types : K.condition_types C on c ≡ None
 
--- the CASE of a mask that keeps them, where the masked column is of that type
-pub record KeepsMaskRules (K : Checks) (C : Cat) (on : Tab) (ty : Ty) (e : Expr) : Type 0 where
+-- the CASE of a mask that keeps them, where the masked column has that name
+pub record KeepsMaskRules (K : Checks) (C : Cat) (on : Tab) (column : List ℕ) (e : Expr) : Type 0 where
   pub names : K.mask_names C on e ≡ None
-  pub types : K.mask_types C on ty e ≡ None
+  pub types : K.mask_types C on column e ≡ None
 
 -- the condition of a permission keeps the rules of names and types, and each of its columns is qualified
 pub record IsValid (K : Checks) (C : Cat) (t : Table) (p : PermissionRec) : Type 0 where
@@ -35,7 +35,7 @@ pub record IsValid (K : Checks) (C : Cat) (t : Table) (p : PermissionRec) : Type
 -- the CASE of a mask is of its column's kind, which isn't label
 abbrev pub TypesAt : Checks → Cat → Table → MaskRec → Option ColumnRec → Type 0
 TypesAt K C t m None = ⊥
-TypesAt K C t m (Some c) = (K.mask_types C (called t m.correlation) c.ty m.value ≡ None) × (is_label_type c.ty ≡ false)
+TypesAt K C t m (Some c) = (K.mask_types C (called t m.correlation) c.name m.value ≡ None) × (is_label_type c.ty ≡ false)
 
 -- the CASE of a mask keeps the rules, is of its column's kind, and has each of its columns qualified
 pub record IsValidMask (K : Checks) (C : Cat) (t : Table) (m : MaskRec) : Type 0 where
