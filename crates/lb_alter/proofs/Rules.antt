@@ -1,19 +1,10 @@
 -- Rules that refuse what names anything are steady.
-use Rattle.std.proofs.Common.{◌≡◌, refl, sym, subst, ℕ, true, [], ◌∷◌, Option, Some, None}
-use Rattle.std.specs.Prelude.{slice_get}
+use Rattle.std.proofs.Common.{◌≡◌, refl, [], ◌∷◌, Some, None}
 use Rattle.std.specs.List.{AllByRecursion}
-use Rattle.lb_tree.specs.declared.query.Expr.{Expr}
-use Rattle.lb_tree.specs.declared.query.Tab.{Tab}
-use Rattle.lb_cat.specs.declared.catalog.ColumnRec.{ColumnRec}
-use Rattle.lb_cat.specs.Catalog.{Cat, Table}
-use Rattle.lb_names.specs.Mentions.{Mentions, in_cond, in_expr, tables_in, policies_in}
-use Rattle.lb_alter.specs.ChangeControl.{correlation_of}
-use Rattle.lb_alter.specs.ChangeTable.{is_label_type}
+use Rattle.lb_cat.specs.Catalog.{Cat}
+use Rattle.lb_names.specs.Mentions.{Mentions, in_cond, tables_in, policies_in}
 use Rattle.lb_alter.specs.Named.{HasTable, HasPolicy}
-use Rattle.lb_alter.specs.Refusing.{when}
 use Rattle.lb_alter.specs.Steady.{plain_refusal, plain_rules, IsSteady}
-use Rattle.lb_alter.specs.Valid.{TypesAt}
-use Rattle.lb_alter.proofs.SoundKinds.{is_new}
 use Rattle.lb_cat.specs.declared.refusal.Refusal.{Refusal}
 use Rattle.lb_cat.specs.declared.refusal.Refusal.TheVariants as refusals
 

@@ -7,8 +7,6 @@ use Rattle.std.proofs.lemmas.Bool.{eqb-true, eq-eqb}
 use Rattle.std.proofs.lemmas.Slice.Eq.{bytes_eq-Decides}
 use Rattle.std.proofs.lemmas.List.Quantifiers.{position-Some}
 use Rattle.lb_base.specs.declared.key.Key.TheVariants as keys
-use Rattle.lb_base.specs.declared.key.Ty.{Ty}
-use Rattle.lb_base.specs.declared.key.Ty.TheVariants as types
 use Rattle.lb_stmt.specs.declared.change.MaskDef.{MaskDef}
 use Rattle.lb_cat.specs.declared.catalog.ColumnRec.{ColumnRec}
 use Rattle.lb_cat.specs.declared.catalog.PermissionRec.{PermissionRec}

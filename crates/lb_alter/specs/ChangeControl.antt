@@ -1,9 +1,7 @@
 -- Activation of access control, permissions and masks.
-use Rattle.std.specs.Prelude.{if◌then◌else◌, ℕ, Bool, true, false, not, ◌&&◌, ◌||◌, ◌==◌, List, map, find, position, slice_index_or, Option, None, Some, option_map}
+use Rattle.std.specs.Prelude.{if◌then◌else◌, ℕ, Bool, true, false, not, ◌&&◌, ◌||◌, ◌==◌, List, map, find, position, Option, None, Some, option_map}
 use Rattle.std.specs.List.{list_any}
 use Rattle.std.specs.Str.{bytes_eq}
-use Rattle.lb_base.specs.declared.key.Ty.{Ty}
-use Rattle.lb_base.specs.declared.key.Ty.TheVariants as types
 use Rattle.lb_tree.specs.declared.query.Tab.{Tab}
 use Rattle.lb_stmt.specs.declared.change.Activation.{Activation}
 use Rattle.lb_stmt.specs.declared.change.ControlOf.{ControlOf}

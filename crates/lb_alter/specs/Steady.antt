@@ -61,8 +61,8 @@ pub record IsSteady (K : Checks) : Type 0 where
   pub qualifies_mask : (C : Cat) (t : Table) (on : Tab) (at : ℕ) (c : ColumnRec) (e : Expr) → table_named C on.table ≡ Some t → position (is_column c.name) t.columns ≡ Some at → slice_get t.columns at ≡ Some c → KeepsMaskRules K C on c.name e
       → IsValidMask K C t (record { name = []; column = at; correlation = correlation_of on; value = K.qualified_mask C on e; enabled = true })
   -- a table that gets wider breaks no condition that is qualified
-  pub widens : (C : Cat) (t u : Table) (on : Tab) (c : Cond) → table_named C t.name ≡ Some t → IsWider t u → K.is_qualified c ≡ true → KeepsRules K C on c → KeepsRules K (put_table u C) on c
-  pub widens_mask : (C : Cat) (t u : Table) (on : Tab) (column : List ℕ) (e : Expr) → table_named C t.name ≡ Some t → IsWider t u → K.is_qualified_mask e ≡ true → KeepsMaskRules K C on column e
+  pub widens : (C : Cat) (t u : Table) (on : Tab) (c : Cond) → table_named C t.name ≡ Some t → IsWider t u → K.are_qualified c ≡ true → KeepsRules K C on c → KeepsRules K (put_table u C) on c
+  pub widens_mask : (C : Cat) (t u : Table) (on : Tab) (column : List ℕ) (e : Expr) → table_named C t.name ≡ Some t → IsWider t u → K.are_qualified_in e ≡ true → KeepsMaskRules K C on column e
       → KeepsMaskRules K (put_table u C) on column e
   -- what a condition names that keeps the rules is there
   pub stands : (C : Cat) (on : Tab) (c : Cond) → KeepsRules K C on c → AllByRecursion (HasTable C) (tables_in (in_cond c)) × AllByRecursion (HasPolicy C) (policies_in (in_cond c))
@@ -86,6 +86,6 @@ plain_rules = record {
   mask_types = λ C on column e. Some (refusals.Types 0);
   qualified_condition = λ C on c. c;
   qualified_mask = λ C on e. e;
-  is_qualified = λ c. true;
-  is_qualified_mask = λ e. true;
+  are_qualified = λ c. true;
+  are_qualified_in = λ e. true;
 }

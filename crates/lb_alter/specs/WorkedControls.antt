@@ -32,8 +32,8 @@ rules_by names types = record {
   mask_types = λ C on column e. types;
   qualified_condition = λ C on c. c;
   qualified_mask = λ C on e. e;
-  is_qualified = λ c. true;
-  is_qualified_mask = λ e. true;
+  are_qualified = λ c. true;
+  are_qualified_in = λ e. true;
 }
 
 -- a condition that calls the policy Q
