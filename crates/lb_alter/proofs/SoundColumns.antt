@@ -273,7 +273,7 @@ module _ (o : Option (List ℕ)) (n : List ℕ) where
 
   same_types_at : (K : Checks) (D : Cat) (t : Table) (m : MaskRec) (cs : List ColumnRec) (at : ℕ) → TypesAt K D t m (slice_get cs at) → TypesAt K D (record t { columns = map changed t.columns }) m (slice_get (map changed cs) at)
   same_types_at K D t m [] at h = absurd h
-  same_types_at K D t m (c ∷ cs) zero h = (subst (λ (ty : Ty). K.mask_types D (called t m.correlation) ty m.value ≡ None) (sym (same_type c)) h.0, ap is_label_type (same_type c) ∙ h.1)
+  same_types_at K D t m (c ∷ cs) zero h = (subst (λ (column : List ℕ). K.mask_types D (called t m.correlation) column m.value ≡ None) (sym (same_name c)) h.0, ap is_label_type (same_type c) ∙ h.1)
   same_types_at K D t m (c ∷ cs) (suc at) h = same_types_at K D t m cs at h
 
   -- what is asked of the columns that are changed

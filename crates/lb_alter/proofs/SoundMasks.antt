@@ -1,13 +1,12 @@
 -- Masks that are made or replaced leave a sound catalogue sound.
-use Rattle.std.proofs.Common.{◌≡◌, refl, sym, subst, ◌∙◌, ℕ, zero, suc, ◌<◌, Bool, true, false, cond, not, ◌&&◌, ◌||◌, List, [], ◌∷◌, map, length, Option, Some, None, arith}
-use Rattle.std.specs.Prelude.{position, option_map, slice_get, slice_index_or, ◌==◌}
-use Rattle.std.specs.List.{AllByRecursion, list_any}
+use Rattle.std.proofs.Common.{◌≡◌, refl, sym, subst, ◌∙◌, ℕ, zero, suc, ◌+◌, ◌<◌, Bool, true, false, cond, not, ◌&&◌, ◌||◌, List, [], ◌∷◌, map, length, Option, Some, None, arith}
+use Rattle.std.specs.Prelude.{position, option_map, slice_get, nat_lt, ◌==◌}
+use Rattle.std.specs.List.{AllByRecursion, list_any, position_or_len}
 use Rattle.std.specs.Str.{bytes_eq}
 use Rattle.std.proofs.lemmas.Bool.{eqb-true, eq-eqb}
+use Rattle.std.proofs.lemmas.Slice.Eq.{bytes_eq-Decides}
 use Rattle.std.proofs.lemmas.List.Quantifiers.{position-Some}
 use Rattle.lb_base.specs.declared.key.Key.TheVariants as keys
-use Rattle.lb_base.specs.declared.key.Ty.{Ty}
-use Rattle.lb_base.specs.declared.key.Ty.TheVariants as types
 use Rattle.lb_stmt.specs.declared.change.MaskDef.{MaskDef}
 use Rattle.lb_cat.specs.declared.catalog.ColumnRec.{ColumnRec}
 use Rattle.lb_cat.specs.declared.catalog.PermissionRec.{PermissionRec}
@@ -17,7 +16,7 @@ use Rattle.lb_rows.specs.Tables.{Tables}
 use Rattle.lb_rows.specs.Lists.{put}
 use Rattle.lb_cat.specs.Catalog.{Cat, Table, table_named, is_table, is_column, is_mask, put_table}
 use Rattle.lb_names.specs.Mentions.{in_expr, tables_in, policies_in}
-use Rattle.lb_alter.specs.ChangeControl.{correlation_of, has_permission, source_refusal, is_replaced, takes_mask_name, mask_name, other_mask, type_at, new_mask, with_mask, create_mask, is_bad_source}
+use Rattle.lb_alter.specs.ChangeControl.{correlation_of, has_permission, source_refusal, is_replaced, takes_mask_name, mask_name, other_mask, new_mask, with_mask, create_mask, is_bad_source}
 use Rattle.lb_alter.specs.Columns.{IsPlace, has_mask_twice}
 use Rattle.lb_alter.specs.Named.{HasTable, HasPolicy, IsGoodSource}
 use Rattle.lb_alter.specs.Refusing.{exists_already, when, secadm}
@@ -80,15 +79,41 @@ at_place test (c ∷ cs) at h = (position-Some test (c ∷ cs) at c h).0
 record At (cs : List ColumnRec) (at : ℕ) : Type 0 where
   pub column : ColumnRec
   pub there : slice_get cs at ≡ Some column
-  pub type : slice_index_or (map (λ c. c.ty) cs) at types.Int ≡ column.ty
 
 column_at : (cs : List ColumnRec) (at : ℕ) → at < length cs → At cs at
 column_at [] at h = absurd (omega (arith, h))
-column_at (c ∷ cs) zero h = record { column = c; there = refl; type = refl }
+column_at (c ∷ cs) zero h = record { column = c; there = refl }
 column_at (c ∷ cs) (suc at) h =
     let i : at < length cs = omega (arith, h) in
     let r : At cs at = column_at cs at i in
-    record { column = r.column; there = r.there; type = r.type }
+    record { column = r.column; there = r.there }
+
+-- the column at the place that was found has the name
+place_is : (test : ColumnRec → Bool) (cs : List ColumnRec) (at : ℕ) → position test cs ≡ Some at → at ≡ position_or_len test cs
+place_is test cs at h =
+    elim (nat_lt (position_or_len test cs) (length cs)) as (λ b. cond b (Some (position_or_len test cs)) None ≡ Some at → at ≡ position_or_len test cs) [
+      | true ↦ λ i. let same : at ≡ position_or_len test cs = cc in same
+      | false ↦ λ (i : None ≡ Some at). absurd cc
+    ] h
+
+next_place : (k at : ℕ) → suc at ≡ 1 + k → at ≡ k
+next_place k at e = omega (arith, e)
+
+named_next : (n : List ℕ) (x : ColumnRec) (cs : List ColumnRec) (c : ColumnRec) → ((k : ℕ) → k ≡ position_or_len (is_column n) cs → slice_get cs k ≡ Some c → c.name ≡ n)
+    → (at : ℕ) → at ≡ 1 + position_or_len (is_column n) cs → slice_get (x ∷ cs) at ≡ Some c → c.name ≡ n
+named_next n x cs c f zero i j = absurd (omega (arith, i))
+named_next n x cs c f (suc at) i j = f at (next_place (position_or_len (is_column n) cs) at i) j
+
+named_at : (n : List ℕ) (cs : List ColumnRec) (c : ColumnRec) (at : ℕ) → at ≡ position_or_len (is_column n) cs → slice_get cs at ≡ Some c → c.name ≡ n
+named_at n [] c at e h = absurd cc
+named_at n (x ∷ cs) c at e h =
+    elim (is_column n x) as (λ b. is_column n x ≡ b → at ≡ cond (not b) (1 + position_or_len (is_column n) cs) 0 → c.name ≡ n) [
+      | true ↦ λ same i.
+          let first : slice_get (x ∷ cs) 0 ≡ Some c = subst (λ (k : ℕ). slice_get (x ∷ cs) k ≡ Some c) i h in
+          let is : x ≡ c = cc in
+          subst (λ (y : ColumnRec). y.name ≡ n) is ((bytes_eq-Decides x.name n).0 same)
+      | false ↦ λ _ i. named_next n x cs c (named_at n cs c) at i h
+    ] refl e
 
 -- ---- masks of one column
 
@@ -113,7 +138,7 @@ module _ (n : List ℕ) (r : MaskRec) where
       ] refl
 
 module _ (K : Checks) (steady : IsSteady K) (C : Cat) (T : Tables) (s : IsSound K C) (d : MaskDef) (t : Table) (e : table_named C d.on.table ≡ Some t) (column : ℕ) (place : column < length t.columns)
-    (names_hold : K.mask_names C d.on d.value ≡ None) (types_hold : K.mask_types C d.on (type_at t column) d.value ≡ None)
+    (names_hold : K.mask_names C d.on d.value ≡ None) (types_hold : K.mask_types C d.on d.column d.value ≡ None) (first_so : position (is_column d.column) t.columns ≡ Some column)
     (taken : AllByRecursion (λ (x : Table). takes_mask_name d column x ≡ false) C.tables) (own : takes_mask_name d column t ≡ false) (alone : other_mask d.name column t ≡ None)
     (good : AllByRecursion (IsGoodSource C t.name) (tables_in (in_expr d.value))) where
   abbrev pub masks_after : List MaskRec
@@ -163,12 +188,15 @@ module _ (K : Checks) (steady : IsSteady K) (C : Cat) (T : Tables) (s : IsSound 
   found_at : At t.columns column
   found_at = column_at t.columns column place
 
-  keeps : KeepsMaskRules K C d.on found_at.column.ty d.value
-  keeps = record { names = names_hold; types = subst (λ (ty : Ty). K.mask_types C d.on ty d.value ≡ None) found_at.type types_hold }
+  its_column : found_at.column.name ≡ d.column
+  its_column = named_at d.column t.columns found_at.column column (place_is (is_column d.column) t.columns column first_so) found_at.there
+
+  keeps : KeepsMaskRules K C d.on found_at.column.name d.value
+  keeps = record { names = names_hold; types = subst (λ (n : List ℕ). K.mask_types C d.on n d.value ≡ None) (sym its_column) types_hold }
 
   stands_too : AllByRecursion (Sources After t.name) (in_expr (K.qualified_mask C d.on d.value))
   stands_too =
-      let h : AllByRecursion (HasTable C) (tables_in (in_expr d.value)) × AllByRecursion (HasPolicy C) (policies_in (in_expr d.value)) = steady.stands_mask C d.on found_at.column.ty d.value keeps in
+      let h : AllByRecursion (HasTable C) (tables_in (in_expr d.value)) × AllByRecursion (HasPolicy C) (policies_in (in_expr d.value)) = steady.stands_mask C d.on found_at.column.name d.value keeps in
       subst (AllByRecursion (Sources After t.name)) (sym (steady.mask_mentions C d.on d.value))
       (all_follow (Sources C t.name) (Sources After t.name)
       (sources_follow C After (λ n z. there_put (λ (x : Table). x.name) Masked C.tables n z) (λ n z. z) (stays_plain K steady C T s t Masked its_own refl wider) t.name) (in_expr d.value)
@@ -180,10 +208,10 @@ module _ (K : Checks) (steady : IsSteady K) (C : Cat) (T : Tables) (s : IsSound 
   is_valid_there : IsValidMask K After t (new_mask K C column d)
   unfolding first
   is_valid_there =
-      let q : IsValidMask K C t first = steady.qualifies_mask C t d.on column found_at.column d.value e found_at.there keeps in
+      let q : IsValidMask K C t first = steady.qualifies_mask C t d.on column found_at.column d.value e (subst (λ (n : List ℕ). position (is_column n) t.columns ≡ Some column) (sym its_column) first_so) found_at.there keeps in
       let ty : TypesAt K C t first (Some found_at.column) = subst (TypesAt K C t first) found_at.there q.types in
-      let w : KeepsMaskRules K After (called t (correlation_of d.on)) found_at.column.ty (K.qualified_mask C d.on d.value) =
-      steady.widens_mask C t Masked (called t (correlation_of d.on)) found_at.column.ty (K.qualified_mask C d.on d.value) its_own wider q.qualified (record { names = q.names; types = ty.0 }) in
+      let w : KeepsMaskRules K After (called t (correlation_of d.on)) found_at.column.name (K.qualified_mask C d.on d.value) =
+      steady.widens_mask C t Masked (called t (correlation_of d.on)) found_at.column.name (K.qualified_mask C d.on d.value) its_own wider q.qualified (record { names = q.names; types = ty.0 }) in
       record { names = w.names; types = subst (TypesAt K After t (new_mask K C column d)) (sym found_at.there) (w.types, ty.1); qualified = q.qualified }
 
   same_column : (ms : List MaskRec) → AllByRecursion (λ (m : MaskRec). (is_mask d.name m && not (is_replaced d column t m)) ≡ false) ms → AllByRecursion (λ (m : MaskRec). is_mask d.name m ≡ true → (m.column == column) ≡ true) ms
@@ -213,8 +241,8 @@ module _ (K : Checks) (steady : IsSteady K) (C : Cat) (T : Tables) (s : IsSound 
       test_sound K (secadm C user) _ (λ _. found_then K d.on.table (table_named C d.on.table) _ (λ t e. found_then K d.column (position (is_column d.column) t.columns) _
       (λ column at. test_sound K (when (list_any (takes_mask_name d column) C.tables) (refusals.Exists d.name)) _
       (λ free. test_sound K (exists_already (other_mask d.name column t)) _ (λ alone. test_sound K (K.mask_names C d.on d.value) _ (λ names. test_sound K (source_refusal C d.name t.name (in_expr d.value)) _
-      (λ good. test_sound K (K.mask_types C d.on (type_at t column) d.value) _
+      (λ good. test_sound K (K.mask_types C d.on d.column d.value) _
       (λ types.
       let taken : AllByRecursion (λ (x : Table). takes_mask_name d column x ≡ false) C.tables = any_none (takes_mask_name d column) C.tables (is_new _ _ free) in
       done_sound K (put_table (with_mask (new_mask K C column d) t) C) T (keys.Table t.name ∷ [])
-      (masked_sound K steady C T s d t e column (at_place (is_column d.column) t.columns column at) names types taken (none_does (takes_mask_name d column) (is_table d.on.table) C.tables t taken e) (none_already _ alone) (none_found (is_bad_source C t.name) (tables_in (in_expr d.value)) (no_bad d.name _ good)))))))))))
+      (masked_sound K steady C T s d t e column (at_place (is_column d.column) t.columns column at) names types at taken (none_does (takes_mask_name d column) (is_table d.on.table) C.tables t taken e) (none_already _ alone) (none_found (is_bad_source C t.name) (tables_in (in_expr d.value)) (no_bad d.name _ good)))))))))))

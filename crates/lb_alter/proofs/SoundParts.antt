@@ -3,7 +3,6 @@ use Rattle.std.proofs.Common.{◌≡◌, refl, sym, ap, subst, ◌∙◌, ℕ, L
 use Rattle.std.specs.Prelude.{filter_map, slice_get}
 use Rattle.std.specs.List.{AllByRecursion, flat_map, cons_option}
 use Rattle.lb_base.specs.declared.key.Key.TheVariants as keys
-use Rattle.lb_base.specs.declared.key.Ty.{Ty}
 use Rattle.lb_tree.specs.declared.query.Cond.{Cond}
 use Rattle.lb_tree.specs.declared.query.Expr.{Expr}
 use Rattle.lb_tree.specs.declared.query.Tab.{Tab}
@@ -242,8 +241,8 @@ module _ (K : Checks) (C : Cat) where
 
 -- conditions on tables of this kind, which name only such things, stay right
 pub record Reads (K : Checks) (C D : Cat) (Own : List ℕ → Type 0) (G : Mention → Type 0) : Type 0 where
-  pub condition : (on : Tab) (c : Cond) → Own on.table → AllByRecursion G (in_cond c) → K.is_qualified c ≡ true → KeepsRules K C on c → KeepsRules K D on c
-  pub mask : (on : Tab) (ty : Ty) (e : Expr) → Own on.table → AllByRecursion G (in_expr e) → K.is_qualified_mask e ≡ true → KeepsMaskRules K C on ty e → KeepsMaskRules K D on ty e
+  pub condition : (on : Tab) (c : Cond) → Own on.table → AllByRecursion G (in_cond c) → K.are_qualified c ≡ true → KeepsRules K C on c → KeepsRules K D on c
+  pub mask : (on : Tab) (column : List ℕ) (e : Expr) → Own on.table → AllByRecursion G (in_expr e) → K.are_qualified_in e ≡ true → KeepsMaskRules K C on column e → KeepsMaskRules K D on column e
 
 module _ (K : Checks) (C D : Cat) (Own : List ℕ → Type 0) (G : Mention → Type 0) (r : Reads K C D Own G) (t : Table) (own : Own t.name) where
   permissions_move : (ps : List PermissionRec) → InPermissions G ps → AllByRecursion (IsValid K C t) ps → AllByRecursion (IsValid K D t) ps
@@ -252,11 +251,11 @@ module _ (K : Checks) (C D : Cat) (Own : List ℕ → Type 0) (G : Mention → T
       let x : KeepsRules K D (called t p.correlation) p.condition = r.condition (called t p.correlation) p.condition own g.0 h.0.qualified (record { names = h.0.names; types = h.0.types }) in
       (record { names = x.names; types = x.types; qualified = h.0.qualified }, permissions_move ps g.1 h.1)
 
-  type_moves : (m : MaskRec) (c : Option ColumnRec) → AllByRecursion G (in_expr m.value) → K.is_qualified_mask m.value ≡ true → K.mask_names C (called t m.correlation) m.value ≡ None → TypesAt K C t m c
+  type_moves : (m : MaskRec) (c : Option ColumnRec) → AllByRecursion G (in_expr m.value) → K.are_qualified_in m.value ≡ true → K.mask_names C (called t m.correlation) m.value ≡ None → TypesAt K C t m c
       → (K.mask_names D (called t m.correlation) m.value ≡ None) × TypesAt K D t m c
   type_moves m None g q h i = absurd i
   type_moves m (Some c) g q h i =
-      let x : KeepsMaskRules K D (called t m.correlation) c.ty m.value = r.mask (called t m.correlation) c.ty m.value own g q (record { names = h; types = i.0 }) in
+      let x : KeepsMaskRules K D (called t m.correlation) c.name m.value = r.mask (called t m.correlation) c.name m.value own g q (record { names = h; types = i.0 }) in
       (x.names, (x.types, i.1))
 
   masks_move : (ms : List MaskRec) → InMasks G ms → AllByRecursion (IsValidMask K C t) ms → AllByRecursion (IsValidMask K D t) ms

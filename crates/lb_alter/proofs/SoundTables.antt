@@ -402,7 +402,7 @@ refits_old K D t h = record { permissions = h.permissions; masks = h.masks; plac
 pub retyped : (K : Checks) (D : Cat) (t u : Table) (m o : MaskRec) → called t m.correlation ≡ called u o.correlation → m.value ≡ o.value → (c : Option ColumnRec) → TypesAt K D t m c → TypesAt K D u o c
 retyped K D t u m o e f None h = absurd h
 retyped K D t u m o e f (Some c) h =
-    (subst (λ (x : Tab). K.mask_types D x c.ty o.value ≡ None) e (subst (λ (v : Expr). K.mask_types D (called t m.correlation) c.ty v ≡ None) f h.0), h.1)
+    (subst (λ (x : Tab). K.mask_types D x c.name o.value ≡ None) e (subst (λ (v : Expr). K.mask_types D (called t m.correlation) c.name v ≡ None) f h.0), h.1)
 
 module _ (K : Checks) (D : Cat) (t : Table) (row column : Bool) (public : Privileges) (ps : List PermissionRec) (ms : List MaskRec) where
   key_refitted : (key : Option ℕ) → HasKeyColumn t key → HasKeyColumn (refitted t row column public ps ms) key

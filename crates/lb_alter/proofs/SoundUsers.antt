@@ -133,8 +133,8 @@ module _ (K : Checks) (steady : IsSteady K) (C : Cat) where
       → (K.mask_names (put_user u C) (called t m.correlation) m.value ≡ None) × TypesAt K (put_user u C) t m c
   types_stay u f t m None h i = absurd i
   types_stay u f t m (Some c) h i =
-      let r : KeepsMaskRules K (put_user u C) (called t m.correlation) c.ty m.value =
-      steady.reads_mask C (put_user u C) (called t m.correlation) c.ty m.value f f (same_on u (called t m.correlation) (in_expr m.value)) (record { names = h; types = i.0 }) in
+      let r : KeepsMaskRules K (put_user u C) (called t m.correlation) c.name m.value =
+      steady.reads_mask C (put_user u C) (called t m.correlation) c.name m.value f f (same_on u (called t m.correlation) (in_expr m.value)) (record { names = h; types = i.0 }) in
       (r.names, (r.types, i.1))
 
   mask_stays : (u : User) → HasFoldedNames C → (t : Table) (m : MaskRec) → IsValidMask K C t m → IsValidMask K (put_user u C) t m

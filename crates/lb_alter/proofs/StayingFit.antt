@@ -32,7 +32,7 @@ use Rattle.lb_alter.proofs.SoundLabels.{by_own_policy}
 use Rattle.lb_alter.proofs.SoundTables.{refitted}
 use Rattle.lb_alter.specs.AlterTable.{add_column, add_policy, secure_column, unsecure_column}
 use Rattle.lb_alter.specs.Change.{attempt, change}
-use Rattle.lb_alter.specs.ChangeControl.{activate, create_mask, create_permission, drop_mask, drop_permission, has_mask, has_permission, new_mask, new_permission, other_mask, source_refusal, switch_mask, switch_permission, takes_mask_name, takes_permission_name, type_at, with_acts, with_mask, with_permission}
+use Rattle.lb_alter.specs.ChangeControl.{activate, create_mask, create_permission, drop_mask, drop_permission, has_mask, has_permission, new_mask, new_permission, other_mask, source_refusal, switch_mask, switch_permission, takes_mask_name, takes_permission_name, with_acts, with_mask, with_permission}
 use Rattle.lb_alter.specs.ChangeGrant.{create_role, drop_role_of, exempting, grant_exemption, grant_label, grant_privileges, grant_role, grant_secadm, grant_to, has_role_of, held_refusal, mismatch, reads, revoke_exemption, revoke_from, revoke_label, revoke_privileges, revoke_role, revoke_secadm, the_role, user_or_new, with_label, with_role, with_secadm, with_user_privileges, without_label, without_role, writes}
 use Rattle.lb_alter.specs.ChangeLabel.{create_label, drop_label, holds, parts_refusal, secures_with, user_name}
 use Rattle.lb_alter.specs.ChangePolicy.{components_refusal, create_component, create_policy, drop_component_of, drop_policy_of, elements_of, first_label, has_component, has_policy, kind_of_definition, new_policy, policy_name, table_name, with_elements}
@@ -108,7 +108,7 @@ module _ (K : Checks) (C : Cat) (T : Tables) (s : IsSound K C) (f : EachFits C T
   create_mask_fits d =
       test_fits (secadm C user) _ (λ _. found_fits d.on.table (table_named C d.on.table) _ (λ t e. found_fits d.column (position (is_column d.column) t.columns) _
       (λ column _. test_fits (when (list_any (takes_mask_name d column) C.tables) (refusals.Exists d.name)) _ (λ _. test_fits (exists_already (other_mask d.name column t)) _
-      (λ _. test_fits (K.mask_names C d.on d.value) _ (λ _. test_fits (source_refusal C d.name t.name (in_expr d.value)) _ (λ _. test_fits (K.mask_types C d.on (type_at t column) d.value) _
+      (λ _. test_fits (K.mask_names C d.on d.value) _ (λ _. test_fits (source_refusal C d.name t.name (in_expr d.value)) _ (λ _. test_fits (K.mask_types C d.on d.column d.value) _
       (λ _. refits_fits C T f t (by_own_name C d.on.table t e) (with_mask (new_mask K C column d) t) refl refl refl))))))))
 
   switch_permission_fits : (n : List ℕ) (w : Switch) → LeavesFit (switch_permission C T user n w)

@@ -38,7 +38,7 @@ use Rattle.lb_cat.specs.Holdings.{is_holding_of, holding_of, with_holding, has_h
 use Rattle.lb_names.specs.Mentions.{in_cond, in_expr}
 use Rattle.lb_alter.specs.AlterTable.{with_null, change_column, plain_column, add_column, add_policy, secure, secure_column, unsecure_column}
 use Rattle.lb_alter.specs.Change.{attempt}
-use Rattle.lb_alter.specs.ChangeControl.{with_acts, activate, is_enabled, has_permission, has_mask, source_refusal, takes_permission_name, new_permission, with_permission, create_permission, takes_mask_name, other_mask, type_at, new_mask, with_mask, create_mask, switch_permission, switch_mask, drop_permission, drop_mask}
+use Rattle.lb_alter.specs.ChangeControl.{with_acts, activate, is_enabled, has_permission, has_mask, source_refusal, takes_permission_name, new_permission, with_permission, create_permission, takes_mask_name, other_mask, new_mask, with_mask, create_mask, switch_permission, switch_mask, drop_permission, drop_mask}
 use Rattle.lb_alter.specs.ChangeGrant.{user_or_new, grants, taken_from, revokes, reads, writes, held_refusal, with_label, mismatch, grant_label, without_label, revoke_label, exempting, grant_exemption, revoke_exemption, create_role, has_role_of, the_role, drop_role_of, with_role, without_role, grant_role, revoke_role, with_secadm, grant_secadm, revoke_secadm, with_public, with_user_privileges, grant_to, revoke_from, grant_privileges, revoke_privileges}
 use Rattle.lb_alter.specs.ChangeLabel.{parts_refusal, label_parts, create_label, user_name, holds, secures_with, drop_label}
 use Rattle.lb_alter.specs.ChangePolicy.{kind_of_definition, elements_of, with_elements, create_component, policy_name, has_component, drop_component_of, components_refusal, new_policy, create_policy, has_policy, table_name, first_label, drop_policy_of}
@@ -356,7 +356,7 @@ create_mask_stays K C T user d =
     test_stays C T (exists_already (other_mask d.name column t)) _ (
     test_stays C T (K.mask_names C d.on d.value) _ (
     test_stays C T (source_refusal C d.name t.name (in_expr d.value)) _ (
-    test_stays C T (K.mask_types C d.on (type_at t column) d.value) _ (
+    test_stays C T (K.mask_types C d.on d.column d.value) _ (
     alters_stays C T (with_mask (new_mask K C column d) t)))))))))
 
 switch_permission_stays : (C : Cat) (T : Tables) (user : List ℕ) (n : List ℕ) (s : Switch) → Stays C T (switch_permission C T user n s)

@@ -1,9 +1,7 @@
 -- Activation of access control, permissions and masks.
-use Rattle.std.specs.Prelude.{if◌then◌else◌, ℕ, Bool, true, false, not, ◌&&◌, ◌||◌, ◌==◌, List, map, find, position, slice_index_or, Option, None, Some, option_map}
+use Rattle.std.specs.Prelude.{if◌then◌else◌, ℕ, Bool, true, false, not, ◌&&◌, ◌||◌, ◌==◌, List, map, find, position, Option, None, Some, option_map}
 use Rattle.std.specs.List.{list_any}
 use Rattle.std.specs.Str.{bytes_eq}
-use Rattle.lb_base.specs.declared.key.Ty.{Ty}
-use Rattle.lb_base.specs.declared.key.Ty.TheVariants as types
 use Rattle.lb_tree.specs.declared.query.Tab.{Tab}
 use Rattle.lb_stmt.specs.declared.change.Activation.{Activation}
 use Rattle.lb_stmt.specs.declared.change.ControlOf.{ControlOf}
@@ -137,10 +135,6 @@ mask_name m = m.name
 abbrev pub other_mask : List ℕ → ℕ → Table → Option (List ℕ)
 other_mask n column t = option_map mask_name (find (λ m. m.column == column && not (is_mask n m)) t.masks)
 
--- the type of the column at a place of the table
-abbrev pub type_at : Table → ℕ → Ty
-type_at t column = slice_index_or (map (λ c. c.ty) t.columns) column types.Int
-
 -- the mask as it is stored
 abbrev pub new_mask : Checks → Cat → ℕ → MaskDef → MaskRec
 new_mask K C column d = record {
@@ -165,7 +159,7 @@ create_mask K C T user d = do
   exists_already (other_mask d.name column t)
   K.mask_names C d.on d.value
   source_refusal C d.name t.name (in_expr d.value)
-  K.mask_types C d.on (type_at t column) d.value
+  K.mask_types C d.on d.column d.value
   alters C T (with_mask (new_mask K C column d) t)
 
 -- ---- ALTER and DROP: of the table on which the permission or mask stands

@@ -1,7 +1,6 @@
 -- The conditions that a catalogue stores: those of permissions, and the CASE of masks.
 use Rattle.std.specs.Prelude.{ℕ, Bool, List, ◌++◌, map, find, Option}
 use Rattle.std.specs.List.{flat_map, list_any}
-use Rattle.lb_base.specs.declared.key.Ty.{Ty}
 use Rattle.lb_tree.specs.declared.query.Cond.{Cond}
 use Rattle.lb_tree.specs.declared.query.Expr.{Expr}
 use Rattle.lb_tree.specs.declared.query.Tab.{Tab}
@@ -18,15 +17,15 @@ pub record Checks : Type 0 where
   -- the first refusal of a name
   pub condition_names : Cat → Tab → Cond → Option Refusal
   pub mask_names : Cat → Tab → Expr → Option Refusal
-  -- the first refusal of a type; a CASE has the type of its column, which isn't a label
+  -- the first refusal of a type; the CASE of a mask has the type of the column with that name, which isn't a label
   pub condition_types : Cat → Tab → Cond → Option Refusal
-  pub mask_types : Cat → Tab → Ty → Expr → Option Refusal
+  pub mask_types : Cat → Tab → List ℕ → Expr → Option Refusal
   -- the same with each column qualified
   pub qualified_condition : Cat → Tab → Cond → Cond
   pub qualified_mask : Cat → Tab → Expr → Expr
   -- each column of the tree is qualified already
-  pub is_qualified : Cond → Bool
-  pub is_qualified_mask : Expr → Bool
+  pub are_qualified : Cond → Bool
+  pub are_qualified_in : Expr → Bool
 
 -- ---- what they name
 

@@ -29,11 +29,11 @@ rules_by names types = record {
   condition_names = λ C on c. names;
   mask_names = λ C on e. names;
   condition_types = λ C on c. types;
-  mask_types = λ C on ty e. types;
+  mask_types = λ C on column e. types;
   qualified_condition = λ C on c. c;
   qualified_mask = λ C on e. e;
-  is_qualified = λ c. true;
-  is_qualified_mask = λ e. true;
+  are_qualified = λ c. true;
+  are_qualified_in = λ e. true;
 }
 
 -- a condition that calls the policy Q
