@@ -17,4 +17,5 @@ pub mod KeptForms
 pub mod There
 pub mod FoundColumns
 pub mod QualifiedForms
+pub mod Stays
 pub mod Computed

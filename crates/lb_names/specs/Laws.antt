@@ -1,15 +1,19 @@
 -- What is proved of these definitions.
-use Rattle.std.specs.Prelude.{◌≡◌, true, ◌∷◌, None}
+use Rattle.std.specs.Prelude.{◌≡◌, Bool, true, not, ◌&&◌, List, [], ◌∷◌, None, Ok}
+use Rattle.lb_tree.specs.declared.query.Column.{Column}
+use Rattle.lb_names.specs.declared.place.Seen.{Seen}
 use Rattle.lb_tree.specs.declared.query.Tab.{Tab}
 use Rattle.lb_tree.specs.declared.query.Cond.{Cond}
 use Rattle.lb_tree.specs.declared.query.Expr.{Expr}
 use Rattle.lb_tree.specs.declared.query.Query.{Query}
 use Rattle.lb_stmt.specs.declared.write.Stmt.{Stmt}
-use Rattle.lb_names.specs.Sights.{Name, Sight}
+use Rattle.lb_names.specs.Sights.{Name, Sight, correlation}
+use Rattle.lb_names.specs.Passes.{is_called}
+use Rattle.lb_names.specs.Qualify.{with_item}
 use Rattle.lb_names.specs.Marks.{cond_marks, expr_marks, query_marks}
 use Rattle.lb_names.specs.StatementMarks.{marks_of}
 use Rattle.lb_names.specs.Mentions.{table, in_cond, in_expr, in_query, in_stmt, mentions}
-use Rattle.lb_names.specs.Scopes.{Catalogue}
+use Rattle.lb_names.specs.Scopes.{Catalogue, Found, resolve}
 use Rattle.lb_names.specs.Typing.{says, means, answers}
 use Rattle.lb_names.specs.Statements.{names_refused, types_refused, permission_names_refused, permission_types_refused, permission_qualified, mask_names_refused, mask_types_refused, mask_qualified}
 use Rattle.lb_names.specs.Qualified.{are_qualified, are_qualified_in}
@@ -60,3 +64,12 @@ pub record MentionsAreThere (C : Catalogue) : Type 0 where
 pub record FormsAreQualified (C : Catalogue) : Type 0 where
   pub permission : (tab : Tab) (c : Cond) → permission_names_refused C tab c ≡ None → are_qualified (permission_qualified C tab c) ≡ true
   pub mask : (tab : Tab) (e : Expr) → mask_names_refused C tab e ≡ None → are_qualified_in (mask_qualified C tab e) ≡ true
+
+-- no two of these items have one correlation name
+abbrev pub are_apart : List Seen → Bool
+are_apart [] = true
+are_apart (s ∷ seen) = not (is_called (correlation s.tab) seen) && are_apart seen
+
+-- a column means what it meant when it is qualified, where no two items in sight have one correlation name, as in a stored condition
+pub record ColumnsStay (C : Catalogue) : Type 0 where
+  pub column : (seen : List Seen) (c : Column) (x : Found) → are_apart seen ≡ true → resolve C seen c ≡ Ok x → resolve C seen (with_item C seen c) ≡ Ok x
