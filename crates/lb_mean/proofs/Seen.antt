@@ -147,9 +147,11 @@ module _ (C D : Cat) (c : Cred) (T U : Tables) (day : ℤ) where
 
   guarded_same : (o : Option Table) → SameStored C D T U o → Guarded o
   guarded_same None h = tt
-  guarded_same (Some s) h = (first (SameRecord C D T U) (mentioned_by_columns s.columns) (mentioned_by_permissions s.permissions ++ mentioned_by_masks s.masks) after,
-      second (SameRecord C D T U) (mentioned_by_permissions s.permissions) (mentioned_by_masks s.masks)
-      (second (SameRecord C D T U) (mentioned_by_columns s.columns) (mentioned_by_permissions s.permissions ++ mentioned_by_masks s.masks) after))
+  guarded_same (Some s) h = (
+    first (SameRecord C D T U) (mentioned_by_columns s.columns) (mentioned_by_permissions s.permissions ++ mentioned_by_masks s.masks) after,
+    second (SameRecord C D T U) (mentioned_by_permissions s.permissions) (mentioned_by_masks s.masks)
+        (second (SameRecord C D T U) (mentioned_by_columns s.columns) (mentioned_by_permissions s.permissions ++ mentioned_by_masks s.masks) after),
+  )
     where
       after : Same (mentioned_by_columns s.columns ++ (mentioned_by_permissions s.permissions ++ mentioned_by_masks s.masks))
       after = second (SameRecord C D T U) (mention_of s.policy) (mentioned_by_columns s.columns ++ (mentioned_by_permissions s.permissions ++ mentioned_by_masks s.masks)) h
