@@ -1,5 +1,5 @@
 -- Agreement on two lists of mentions is agreement on both.
-use Rattle.std.proofs.Common.{List, [], ◌∷◌, ◌++◌}
+use Rattle.std.proofs.Common.{[], ◌∷◌, ◌++◌}
 use Rattle.lb_names.specs.Mentions.{Mention, Mentions}
 use Rattle.lb_mean.specs.Frame.{Agrees}
 

@@ -1,5 +1,5 @@
 -- The frame law of folds: two sets of steps that agree on what a tree mentions give it one meaning. tools/frame-law writes this file.
-use Rattle.std.proofs.Common.{ℕ, ◌≡◌, refl, sym, subst, ◌∙◌, List, [], ◌∷◌, ◌++◌, Bool, Option, Some, None, map}
+use Rattle.std.proofs.Common.{◌≡◌, refl, sym, subst, ◌∙◌, List, [], ◌∷◌, ◌++◌, Bool, Option, Some, None, map}
 use Rattle.lb_tree.specs.declared.query.Cond.{Cond}
 use Rattle.lb_tree.specs.declared.query.Expr.{Expr}
 use Rattle.lb_tree.specs.declared.query.Item.{Item}
@@ -220,13 +220,13 @@ module _ (K : Kinds) (s t : Steps K) (A : Mention → Type 0) (alike : Alike K s
   query_good : (distinct : Bool) (items : List (With in_item (item_of K s) (item_of K t))) (from : List (With in_chain (chain_of K s) (chain_of K t))) (filter : Option (With in_cond (cond_of K s) (cond_of K t))) (group : List Column) (having : Option (With in_cond (cond_of K s) (cond_of K t)))
       → GQuery (roll-Query (down_query (record { distinct = distinct; items = items; from = from; filter = filter; group = group; having = having })))
   query_good distinct items from None group None = by_query (record { distinct = distinct; items = (map (λ x. x.0) items); from = (map (λ x. x.0) from); filter = None; group = group; having = None })
-    (λ h. let m0 : Mentions = all_of (map in_item (map (λ x. x.0) items)) in let r0 : Mentions = (all_of (map in_chain (map (λ x. x.0) from))) ++ (([]) ++ (([]))) in let p0 : Agrees A m0 = first A m0 r0 h in let k0 : Agrees A r0 = second A m0 r0 h in let m1 : Mentions = all_of (map in_chain (map (λ x. x.0) from)) in let r1 : Mentions = ([]) ++ (([])) in let p1 : Agrees A m1 = first A m1 r1 k0 in let k1 : Agrees A r1 = second A m1 r1 k0 in let m2 : Mentions = [] in let r2 : Mentions = ([]) in let p2 : Agrees A m2 = first A m2 r2 k1 in let k2 : Agrees A r2 = second A m2 r2 k1 in (λ i. s.query (record { distinct = distinct; items = (all_good in_item (item_of K s) (item_of K t) items p0 i); from = (all_good in_chain (chain_of K s) (chain_of K t) from p1 i); filter = None; group = group; having = None })) ∙ alike.query (record { distinct = distinct; items = (map (item_of K t) (map (λ x. x.0) items)); from = (map (chain_of K t) (map (λ x. x.0) from)); filter = None; group = group; having = None }))
+      (λ h. let m0 : Mentions = all_of (map in_item (map (λ x. x.0) items)) in let r0 : Mentions = (all_of (map in_chain (map (λ x. x.0) from))) ++ (([]) ++ (([]))) in let p0 : Agrees A m0 = first A m0 r0 h in let k0 : Agrees A r0 = second A m0 r0 h in let m1 : Mentions = all_of (map in_chain (map (λ x. x.0) from)) in let r1 : Mentions = ([]) ++ (([])) in let p1 : Agrees A m1 = first A m1 r1 k0 in let k1 : Agrees A r1 = second A m1 r1 k0 in let m2 : Mentions = [] in let r2 : Mentions = ([]) in let p2 : Agrees A m2 = first A m2 r2 k1 in let k2 : Agrees A r2 = second A m2 r2 k1 in (λ i. s.query (record { distinct = distinct; items = (all_good in_item (item_of K s) (item_of K t) items p0 i); from = (all_good in_chain (chain_of K s) (chain_of K t) from p1 i); filter = None; group = group; having = None })) ∙ alike.query (record { distinct = distinct; items = (map (item_of K t) (map (λ x. x.0) items)); from = (map (chain_of K t) (map (λ x. x.0) from)); filter = None; group = group; having = None }))
   query_good distinct items from None group (Some having) = by_query (record { distinct = distinct; items = (map (λ x. x.0) items); from = (map (λ x. x.0) from); filter = None; group = group; having = (Some having.0) })
-    (λ h. let m0 : Mentions = all_of (map in_item (map (λ x. x.0) items)) in let r0 : Mentions = (all_of (map in_chain (map (λ x. x.0) from))) ++ (([]) ++ ((in_cond having.0))) in let p0 : Agrees A m0 = first A m0 r0 h in let k0 : Agrees A r0 = second A m0 r0 h in let m1 : Mentions = all_of (map in_chain (map (λ x. x.0) from)) in let r1 : Mentions = ([]) ++ ((in_cond having.0)) in let p1 : Agrees A m1 = first A m1 r1 k0 in let k1 : Agrees A r1 = second A m1 r1 k0 in let m2 : Mentions = [] in let r2 : Mentions = (in_cond having.0) in let p2 : Agrees A m2 = first A m2 r2 k1 in let k2 : Agrees A r2 = second A m2 r2 k1 in (λ i. s.query (record { distinct = distinct; items = (all_good in_item (item_of K s) (item_of K t) items p0 i); from = (all_good in_chain (chain_of K s) (chain_of K t) from p1 i); filter = None; group = group; having = (Some (having.1 k2 i)) })) ∙ alike.query (record { distinct = distinct; items = (map (item_of K t) (map (λ x. x.0) items)); from = (map (chain_of K t) (map (λ x. x.0) from)); filter = None; group = group; having = (Some (cond_of K t having.0)) }))
+      (λ h. let m0 : Mentions = all_of (map in_item (map (λ x. x.0) items)) in let r0 : Mentions = (all_of (map in_chain (map (λ x. x.0) from))) ++ (([]) ++ ((in_cond having.0))) in let p0 : Agrees A m0 = first A m0 r0 h in let k0 : Agrees A r0 = second A m0 r0 h in let m1 : Mentions = all_of (map in_chain (map (λ x. x.0) from)) in let r1 : Mentions = ([]) ++ ((in_cond having.0)) in let p1 : Agrees A m1 = first A m1 r1 k0 in let k1 : Agrees A r1 = second A m1 r1 k0 in let m2 : Mentions = [] in let r2 : Mentions = (in_cond having.0) in let p2 : Agrees A m2 = first A m2 r2 k1 in let k2 : Agrees A r2 = second A m2 r2 k1 in (λ i. s.query (record { distinct = distinct; items = (all_good in_item (item_of K s) (item_of K t) items p0 i); from = (all_good in_chain (chain_of K s) (chain_of K t) from p1 i); filter = None; group = group; having = (Some (having.1 k2 i)) })) ∙ alike.query (record { distinct = distinct; items = (map (item_of K t) (map (λ x. x.0) items)); from = (map (chain_of K t) (map (λ x. x.0) from)); filter = None; group = group; having = (Some (cond_of K t having.0)) }))
   query_good distinct items from (Some filter) group None = by_query (record { distinct = distinct; items = (map (λ x. x.0) items); from = (map (λ x. x.0) from); filter = (Some filter.0); group = group; having = None })
-    (λ h. let m0 : Mentions = all_of (map in_item (map (λ x. x.0) items)) in let r0 : Mentions = (all_of (map in_chain (map (λ x. x.0) from))) ++ ((in_cond filter.0) ++ (([]))) in let p0 : Agrees A m0 = first A m0 r0 h in let k0 : Agrees A r0 = second A m0 r0 h in let m1 : Mentions = all_of (map in_chain (map (λ x. x.0) from)) in let r1 : Mentions = (in_cond filter.0) ++ (([])) in let p1 : Agrees A m1 = first A m1 r1 k0 in let k1 : Agrees A r1 = second A m1 r1 k0 in let m2 : Mentions = in_cond filter.0 in let r2 : Mentions = ([]) in let p2 : Agrees A m2 = first A m2 r2 k1 in let k2 : Agrees A r2 = second A m2 r2 k1 in (λ i. s.query (record { distinct = distinct; items = (all_good in_item (item_of K s) (item_of K t) items p0 i); from = (all_good in_chain (chain_of K s) (chain_of K t) from p1 i); filter = (Some (filter.1 p2 i)); group = group; having = None })) ∙ alike.query (record { distinct = distinct; items = (map (item_of K t) (map (λ x. x.0) items)); from = (map (chain_of K t) (map (λ x. x.0) from)); filter = (Some (cond_of K t filter.0)); group = group; having = None }))
+      (λ h. let m0 : Mentions = all_of (map in_item (map (λ x. x.0) items)) in let r0 : Mentions = (all_of (map in_chain (map (λ x. x.0) from))) ++ ((in_cond filter.0) ++ (([]))) in let p0 : Agrees A m0 = first A m0 r0 h in let k0 : Agrees A r0 = second A m0 r0 h in let m1 : Mentions = all_of (map in_chain (map (λ x. x.0) from)) in let r1 : Mentions = (in_cond filter.0) ++ (([])) in let p1 : Agrees A m1 = first A m1 r1 k0 in let k1 : Agrees A r1 = second A m1 r1 k0 in let m2 : Mentions = in_cond filter.0 in let r2 : Mentions = ([]) in let p2 : Agrees A m2 = first A m2 r2 k1 in let k2 : Agrees A r2 = second A m2 r2 k1 in (λ i. s.query (record { distinct = distinct; items = (all_good in_item (item_of K s) (item_of K t) items p0 i); from = (all_good in_chain (chain_of K s) (chain_of K t) from p1 i); filter = (Some (filter.1 p2 i)); group = group; having = None })) ∙ alike.query (record { distinct = distinct; items = (map (item_of K t) (map (λ x. x.0) items)); from = (map (chain_of K t) (map (λ x. x.0) from)); filter = (Some (cond_of K t filter.0)); group = group; having = None }))
   query_good distinct items from (Some filter) group (Some having) = by_query (record { distinct = distinct; items = (map (λ x. x.0) items); from = (map (λ x. x.0) from); filter = (Some filter.0); group = group; having = (Some having.0) })
-    (λ h. let m0 : Mentions = all_of (map in_item (map (λ x. x.0) items)) in let r0 : Mentions = (all_of (map in_chain (map (λ x. x.0) from))) ++ ((in_cond filter.0) ++ ((in_cond having.0))) in let p0 : Agrees A m0 = first A m0 r0 h in let k0 : Agrees A r0 = second A m0 r0 h in let m1 : Mentions = all_of (map in_chain (map (λ x. x.0) from)) in let r1 : Mentions = (in_cond filter.0) ++ ((in_cond having.0)) in let p1 : Agrees A m1 = first A m1 r1 k0 in let k1 : Agrees A r1 = second A m1 r1 k0 in let m2 : Mentions = in_cond filter.0 in let r2 : Mentions = (in_cond having.0) in let p2 : Agrees A m2 = first A m2 r2 k1 in let k2 : Agrees A r2 = second A m2 r2 k1 in (λ i. s.query (record { distinct = distinct; items = (all_good in_item (item_of K s) (item_of K t) items p0 i); from = (all_good in_chain (chain_of K s) (chain_of K t) from p1 i); filter = (Some (filter.1 p2 i)); group = group; having = (Some (having.1 k2 i)) })) ∙ alike.query (record { distinct = distinct; items = (map (item_of K t) (map (λ x. x.0) items)); from = (map (chain_of K t) (map (λ x. x.0) from)); filter = (Some (cond_of K t filter.0)); group = group; having = (Some (cond_of K t having.0)) }))
+      (λ h. let m0 : Mentions = all_of (map in_item (map (λ x. x.0) items)) in let r0 : Mentions = (all_of (map in_chain (map (λ x. x.0) from))) ++ ((in_cond filter.0) ++ ((in_cond having.0))) in let p0 : Agrees A m0 = first A m0 r0 h in let k0 : Agrees A r0 = second A m0 r0 h in let m1 : Mentions = all_of (map in_chain (map (λ x. x.0) from)) in let r1 : Mentions = (in_cond filter.0) ++ ((in_cond having.0)) in let p1 : Agrees A m1 = first A m1 r1 k0 in let k1 : Agrees A r1 = second A m1 r1 k0 in let m2 : Mentions = in_cond filter.0 in let r2 : Mentions = (in_cond having.0) in let p2 : Agrees A m2 = first A m2 r2 k1 in let k2 : Agrees A r2 = second A m2 r2 k1 in (λ i. s.query (record { distinct = distinct; items = (all_good in_item (item_of K s) (item_of K t) items p0 i); from = (all_good in_chain (chain_of K s) (chain_of K t) from p1 i); filter = (Some (filter.1 p2 i)); group = group; having = (Some (having.1 k2 i)) })) ∙ alike.query (record { distinct = distinct; items = (map (item_of K t) (map (λ x. x.0) items)); from = (map (chain_of K t) (map (λ x. x.0) from)); filter = (Some (cond_of K t filter.0)); group = group; having = (Some (cond_of K t having.0)) }))
 
   expr_agrees : (x : Expr) → GExpr x
   expr_agrees = ind-Expr GCond GExpr GItem GJoin GArm GChain GChoice GQuery GSigned (λ x y is. subst (λ z. GCond (roll-Cond z)) is (cond_good y)) (λ x y is. subst (λ z. GExpr (roll-Expr z)) is (expr_good y)) (λ x y is. subst (λ z. GItem (roll-Item z)) is (item_good y)) (λ x y is. subst (λ z. GJoin (roll-Join z)) is (join_good y)) (λ x y is. subst (λ z. GArm (roll-Arm z)) is (arm_good y)) (λ x y is. subst (λ z. GChain (roll-Chain z)) is (chain_good y)) (λ x y is. subst (λ z. GChoice (roll-Choice z)) is (choice_good y)) (λ x y is. subst (λ z. GQuery (roll-Query z)) is (query_good y.distinct y.items y.from y.filter y.group y.having)) (λ x y is. subst (λ z. GSigned (roll-Signed z)) is (signed_good y))

@@ -1,22 +1,20 @@
 -- The meaning of a tree depends on what it mentions.
-use Rattle.std.proofs.Common.{ℕ, ℤ, ◌≡◌, refl, ap, sym, ◌∙◌, subst, List, [], ◌∷◌, Bool, Option}
-use Rattle.lb_base.specs.Evaluated.{◌>>=◌}
+use Rattle.std.proofs.Common.{ℕ, ℤ, ◌≡◌, refl, ◌∙◌, List, Option}
 use Rattle.lb_tree.specs.declared.query.Atom.{Atom}
 use Rattle.lb_tree.specs.declared.query.Atom.TheVariants as atoms
 use Rattle.lb_tree.specs.declared.query.Cond.TheOpen as layers
 use Rattle.lb_tree.specs.Folds.{Layer}
 use Rattle.lb_cat.specs.declared.cred.Cred.{Cred}
 use Rattle.lb_cat.specs.Catalog.{Policy}
-use Rattle.lb_names.specs.Mentions.{Mentions, in_atom, in_expr, in_cond, in_query}
-use Rattle.lb_mean.specs.Setting.{Setting, Source, Env}
+use Rattle.lb_names.specs.Mentions.{in_atom, in_expr, in_cond, in_query}
+use Rattle.lb_mean.specs.Setting.{Setting, Source}
 use Rattle.lb_mean.specs.Environment.{atom_value, atom_policy}
-use Rattle.lb_mean.specs.Meant.{Means, Joins, Chains, meaning}
-use Rattle.lb_mean.specs.Expressions.{expr_value, expr_policy}
+use Rattle.lb_mean.specs.Meant.{meaning}
 use Rattle.lb_mean.specs.Sure.{expr_sure, expr_total}
 use Rattle.lb_mean.specs.Joined.{inner, left, cross, chain}
 use Rattle.lb_mean.specs.Meaning.{steps, means, says, answers}
-use Rattle.lb_mean.specs.Frame.{Agrees, SameIn, SameSetting, ExprFrame, CondFrame, QueryFrame}
-use Rattle.lb_mean.proofs.Framed.{Alike, head_expr, head_join, head_chain, expr_framed, cond_framed, query_framed}
+use Rattle.lb_mean.specs.Frame.{Agrees, SameIn, ExprFrame, CondFrame, QueryFrame}
+use Rattle.lb_mean.proofs.Framed.{Alike, head_expr, head_join, expr_framed, cond_framed, query_framed}
 
 -- settings of one session on one day
 module _ (c : Cred) (day : ℤ) (P Q : List ℕ → Option Policy) (T U : List ℕ → Source) where

@@ -1,5 +1,5 @@
 -- What is seen of the tables depends on what they mention, and answers depend on what is seen.
-use Rattle.std.proofs.Common.{ℕ, suc, ℤ, ◌≡◌, refl, ap, ◌∙◌, sym, subst, List, [], ◌∷◌, ◌++◌, Bool, true, false, Option, Some, None, map}
+use Rattle.std.proofs.Common.{ℕ, suc, ℤ, ◌≡◌, refl, ◌∙◌, List, [], ◌∷◌, ◌++◌, Bool, true, false, Option, Some, None, map}
 use Rattle.std.specs.Prelude.{find, if◌then◌else◌, ◌==◌, ◌&&◌, filter, cond, Ok}
 use Rattle.std.specs.List.{flat_map}
 use Rattle.std.specs.Option.{option_and_then}
@@ -15,18 +15,17 @@ use Rattle.lb_cat.specs.declared.catalog.ColumnRec.{ColumnRec}
 use Rattle.lb_cat.specs.declared.catalog.PermissionRec.{PermissionRec}
 use Rattle.lb_cat.specs.declared.catalog.MaskRec.{MaskRec}
 use Rattle.lb_cat.specs.declared.cred.Cred.{Cred}
-use Rattle.lb_cat.specs.Catalog.{Cat, Table, table_named, policy_named}
+use Rattle.lb_cat.specs.Catalog.{Cat, Table, table_named}
 use Rattle.lb_names.specs.Mentions.{Mention, Mentions, table, policy, label, in_expr, in_cond, in_query, in_key, in_select}
 use Rattle.lb_rows.specs.Tables.{Tables, rows_of}
-use Rattle.lb_mean.specs.Setting.{Setting, Source, Env, given}
-use Rattle.lb_mean.specs.Labels.{is_readable}
+use Rattle.lb_mean.specs.Setting.{Setting}
 use Rattle.lb_mean.specs.Meaning.{means, says, answers}
-use Rattle.lb_mean.specs.Visible.{unguarded, guarded, whole_source, visible_source, mask_at, alone, passes_label, seen_column, seen_columns, policy_of_type, is_granted_by, is_permitted, is_visible, visible_rows, shown_value, shown_from, shown_values}
-use Rattle.lb_mean.specs.Ordered.{Sorter, sorter, sorts_by, chosen, chosen_by}
+use Rattle.lb_mean.specs.Visible.{unguarded, guarded, whole_source, visible_source, mask_at, alone, passes_label, seen_column, policy_of_type, is_granted_by, is_permitted, is_visible, shown_value, shown_from}
+use Rattle.lb_mean.specs.Ordered.{sorter, sorts_by, chosen, chosen_by}
 use Rattle.lb_mean.specs.Output.{rows_told, rows_of_query}
-use Rattle.lb_mean.specs.Answer.{Checks, unless_refused, query_refused}
+use Rattle.lb_mean.specs.Answer.{unless_refused, query_refused}
 use Rattle.lb_mean.specs.Frame.{Agrees, SameIn}
-use Rattle.lb_mean.specs.Laws.{mention_of, mentioned_by_columns, mentioned_by_permissions, mentioned_by_masks, mentioned_by, SameRecord, SameStored, SameMention, SameGuards, SeesSame, RowsFrame, AnswerFrame, TwoWorlds}
+use Rattle.lb_mean.specs.Laws.{mention_of, mentioned_by_columns, mentioned_by_permissions, mentioned_by_masks, SameRecord, SameStored, SameMention, SameGuards, SeesSame, RowsFrame, AnswerFrame, TwoWorlds}
 use Rattle.lb_mean.proofs.Agreeing.{first, second, both, weaker}
 use Rattle.lb_mean.proofs.Meant.{expr_of_session, cond_of_session, query_of_session}
 
@@ -147,9 +146,11 @@ module _ (C D : Cat) (c : Cred) (T U : Tables) (day : ℤ) where
 
   guarded_same : (o : Option Table) → SameStored C D T U o → Guarded o
   guarded_same None h = tt
-  guarded_same (Some s) h = (first (SameRecord C D T U) (mentioned_by_columns s.columns) (mentioned_by_permissions s.permissions ++ mentioned_by_masks s.masks) after,
-      second (SameRecord C D T U) (mentioned_by_permissions s.permissions) (mentioned_by_masks s.masks)
-      (second (SameRecord C D T U) (mentioned_by_columns s.columns) (mentioned_by_permissions s.permissions ++ mentioned_by_masks s.masks) after))
+  guarded_same (Some s) h = (
+    first (SameRecord C D T U) (mentioned_by_columns s.columns) (mentioned_by_permissions s.permissions ++ mentioned_by_masks s.masks) after,
+    second (SameRecord C D T U) (mentioned_by_permissions s.permissions) (mentioned_by_masks s.masks)
+        (second (SameRecord C D T U) (mentioned_by_columns s.columns) (mentioned_by_permissions s.permissions ++ mentioned_by_masks s.masks) after),
+  )
     where
       after : Same (mentioned_by_columns s.columns ++ (mentioned_by_permissions s.permissions ++ mentioned_by_masks s.masks))
       after = second (SameRecord C D T U) (mention_of s.policy) (mentioned_by_columns s.columns ++ (mentioned_by_permissions s.permissions ++ mentioned_by_masks s.masks)) h

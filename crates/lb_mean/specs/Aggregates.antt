@@ -1,5 +1,5 @@
 -- COUNT, SUM, MIN and MAX over the rows of a group.
-use Rattle.std.specs.Prelude.{ℕ, suc, ◌||◌, Bool, false, if◌then◌else◌, List, [], ◌∷◌, length, Ok, pos}
+use Rattle.std.specs.Prelude.{ℕ, suc, ◌||◌, false, if◌then◌else◌, List, [], ◌∷◌, length, Ok, pos}
 use Rattle.std.specs.List.{list_any}
 use Rattle.lb_base.specs.declared.value.Value.{Value}
 use Rattle.lb_base.specs.declared.value.Value.TheVariants as values

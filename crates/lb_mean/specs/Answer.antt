@@ -1,5 +1,5 @@
 -- What a query is answered.
-use Rattle.std.specs.Prelude.{ℕ, List, [], ◌∷◌, ◌++◌, map, Option, Some, None, Ok, Err, ℤ}
+use Rattle.std.specs.Prelude.{List, [], ◌∷◌, ◌++◌, map, Option, Some, None, Ok, Err, ℤ}
 use Rattle.lb_base.specs.declared.fault.Fault.{Fault}
 use Rattle.lb_base.specs.declared.fault.Fault.TheVariants.{Overflow, ManyRows, Kept}
 use Rattle.lb_base.specs.declared.value.Value.{Value}

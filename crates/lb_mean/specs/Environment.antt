@@ -10,7 +10,7 @@ use Rattle.lb_tree.specs.declared.query.Atom.{Atom}
 use Rattle.lb_tree.specs.declared.query.Atom.TheVariants as atoms
 use Rattle.lb_tree.specs.declared.query.Column.{Column}
 use Rattle.lb_cat.specs.Catalog.{Policy, is_among}
-use Rattle.lb_mean.specs.Setting.{Setting, SeenColumn, Piece, JoinedRow, Frame, Env}
+use Rattle.lb_mean.specs.Setting.{Setting, SeenColumn, Piece, JoinedRow, Env}
 use Rattle.lb_mean.specs.Labels.{label_of_text, label_by_name, label_to_char}
 
 -- ---- columns

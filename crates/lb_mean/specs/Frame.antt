@@ -1,5 +1,5 @@
 -- Agreement on what a tree mentions: the form of every frame law.
-use Rattle.std.specs.Prelude.{◌≡◌, ℕ, List, [], ◌∷◌}
+use Rattle.std.specs.Prelude.{◌≡◌, [], ◌∷◌}
 use Rattle.lb_tree.specs.declared.query.Expr.{Expr}
 use Rattle.lb_tree.specs.declared.query.Cond.{Cond}
 use Rattle.lb_tree.specs.declared.query.Query.{Query}

@@ -1,6 +1,6 @@
 -- FROM: nested loops over what is seen of the tables. Where a condition of ON faults, the fault stands in the place of the rows
 -- that it would have given, so that the joined rows can be gone through one at a time.
-use Rattle.std.specs.Prelude.{ℕ, Bool, if◌then◌else◌, List, [], ◌∷◌, ◌++◌, map, unwrap_or, fold, Option, Some, None, Ok, Err}
+use Rattle.std.specs.Prelude.{ℕ, if◌then◌else◌, List, [], ◌∷◌, ◌++◌, map, unwrap_or, fold, Ok, Err}
 use Rattle.std.specs.List.{flat_map}
 use Rattle.lb_base.specs.declared.truth.Truth.{Truth}
 use Rattle.lb_base.specs.declared.value.Value.{Value}

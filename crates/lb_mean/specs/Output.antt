@@ -1,5 +1,5 @@
 -- The rows that a query statement answers: outputs with masks last, and labels as their texts.
-use Rattle.std.specs.Prelude.{ℕ, List, [], ◌∷◌, map, Option, Some, None, Ok, ℤ}
+use Rattle.std.specs.Prelude.{List, [], ◌∷◌, map, Option, Ok, ℤ}
 use Rattle.std.specs.List.{flat_map}
 use Rattle.lb_base.specs.declared.value.Value.{Value}
 use Rattle.lb_base.specs.Evaluated.{Evaluated, ◌>>=◌, each}

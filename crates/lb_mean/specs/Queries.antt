@@ -13,7 +13,7 @@ use Rattle.lb_tree.specs.Folds.{Layer}
 use Rattle.lb_cat.specs.Catalog.{Policy}
 use Rattle.lb_mean.specs.Setting.{Env, Frame, JoinedRow, Piece, row_frame}
 use Rattle.lb_mean.specs.Environment.{column_value}
-use Rattle.lb_mean.specs.Meant.{Says, Part, Shows, Chains, Answers, meaning}
+use Rattle.lb_mean.specs.Meant.{Says, Part, Shows, Answers, meaning}
 use Rattle.lb_mean.specs.Conditions.{is_listed}
 use Rattle.lb_mean.specs.Joined.{joined}
 

@@ -3,10 +3,6 @@ use Rattle.std.specs.Prelude.{ℕ, ◌&&◌, ◌||◌, not, Bool, true, false, i
 use Rattle.std.specs.List.{list_any, list_all, flat_map, position_from}
 use Rattle.std.specs.Option.{option_and_then, option_or}
 use Rattle.std.specs.Str.{bytes_eq}
-use Rattle.lb_label.specs.declared.access.Fail.{Fail}
-use Rattle.lb_tree.specs.declared.query.Column.{Column}
-use Rattle.lb_tree.specs.declared.query.Item.{Item}
-use Rattle.lb_tree.specs.declared.query.SortKey.{SortKey}
 use Rattle.lb_tree.specs.declared.query.Select.{Select}
 use Rattle.lb_tree.specs.declared.query.Query.{Query}
 use Rattle.lb_tree.specs.declared.query.Cond.TheOpen as layers

@@ -1,5 +1,5 @@
 -- What the meaning of a tree depends on: the session, the day, policies and tables; and the environments in which names are looked up.
-use Rattle.std.specs.Prelude.{ℕ, List, [], ◌∷◌, map, Option, Ok, ℤ}
+use Rattle.std.specs.Prelude.{ℕ, List, [], map, Option, Ok, ℤ}
 use Rattle.lb_base.specs.declared.value.Value.{Value}
 use Rattle.lb_base.specs.Evaluated.{Evaluated}
 use Rattle.lb_cat.specs.declared.cred.Cred.{Cred}

@@ -1,5 +1,5 @@
 -- Which expressions and conditions are sure, having neither arithmetic nor a subquery, and which have an aggregate.
-use Rattle.std.specs.Prelude.{◌&&◌, ◌||◌, not, Bool, true, false, List, Option, Some, None}
+use Rattle.std.specs.Prelude.{◌&&◌, ◌||◌, not, Bool, true, false, Option, Some, None}
 use Rattle.std.specs.List.{list_any, list_all}
 use Rattle.lb_tree.specs.declared.query.Atom.{Atom}
 use Rattle.lb_tree.specs.declared.query.Atom.TheVariants as atoms
@@ -7,7 +7,7 @@ use Rattle.lb_tree.specs.declared.query.Aggregate.{Aggregate}
 use Rattle.lb_tree.specs.declared.query.Aggregate.TheVariants as aggregates
 use Rattle.lb_tree.specs.declared.query.Cond.TheOpen as layers
 use Rattle.lb_tree.specs.Folds.{Layer}
-use Rattle.lb_mean.specs.Meant.{Means, Says, meaning}
+use Rattle.lb_mean.specs.Meant.{Means, meaning}
 
 -- a part that is there passes the test
 abbrev pub if_any : {A : Type 0} → (A → Bool) → Option A → Bool

@@ -8,7 +8,7 @@ use Rattle.lb_cat.specs.declared.catalog.ColumnRec.{ColumnRec}
 use Rattle.lb_cat.specs.declared.catalog.PermissionRec.{PermissionRec}
 use Rattle.lb_cat.specs.declared.catalog.MaskRec.{MaskRec}
 use Rattle.lb_cat.specs.declared.cred.Cred.{Cred}
-use Rattle.lb_cat.specs.Catalog.{Cat, Table, Policy, table_named, policy_named}
+use Rattle.lb_cat.specs.Catalog.{Cat, Table, table_named, policy_named}
 use Rattle.lb_rows.specs.Tables.{Tables, rows_of}
 use Rattle.lb_base.specs.declared.key.Ty.{Ty}
 use Rattle.lb_base.specs.declared.key.Ty.TheVariants as types

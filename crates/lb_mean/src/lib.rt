@@ -3,4 +3,6 @@
 
 mod laws;
 
-pub use laws::{meaning_has_a_frame, queries_have_a_frame, stable_sort_is_sorted, two_worlds_answer_alike};
+pub use laws::{
+    meaning_has_a_frame, queries_have_a_frame, stable_sort_is_sorted, two_worlds_answer_alike,
+};

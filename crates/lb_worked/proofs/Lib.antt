@@ -5,5 +5,6 @@ mod Permitted
 mod Masked
 mod Edges
 mod Labelled
+mod Chained
 mod Written
 mod Stored

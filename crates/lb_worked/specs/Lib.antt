@@ -8,5 +8,6 @@ pub mod Permitted
 pub mod Masked
 pub mod Edges
 pub mod Labelled
+pub mod Chained
 pub mod Written
 pub mod Stored

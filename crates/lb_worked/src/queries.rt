@@ -2,6 +2,7 @@
 ghost use Rattle.lb_worked.specs.Sure.{SurePartFirst, StopsAtUnknown, UnderNot, NotSure, InCase};
 ghost use Rattle.lb_worked.specs.Orders.{OutputsLast, LastFirst, DistinctFirst, KeysBeforeCut, InStops, BetweenStops, CoalesceStops, ScalarEvaluatesAll, ScalarHasOneRow, ExistsHasNoOutputs, LeftJoinNulls};
 ghost use Rattle.lb_worked.specs.Edges.{AtLimit, BeyondLimit, BeforeFirst, BeyondLast, FarBeyond};
+ghost use Rattle.lb_worked.specs.Chained.{OtherChain, LaterTable};
 
 /// WHERE tests the parts without arithmetic and subqueries first, and stops at the first that isn't true.
 pub fn sure_parts_come_first()
@@ -34,4 +35,10 @@ pub fn edges_are_exact()
     ensures before_first { BeforeFirst }
     ensures beyond_last { BeyondLast }
     ensures far_beyond { FarBeyond }
+{}
+
+/// A bare column in ON belongs to the tables of its chain, for the test of protected columns too.
+pub fn names_in_on_belong_to_its_chain()
+    ensures other_chain { OtherChain }
+    ensures later_table { LaterTable }
 {}
