@@ -4,8 +4,6 @@ use Rattle.std.specs.Option.{option_and_then, option_or}
 use Rattle.lb_base.specs.declared.key.Ty.{Ty}
 use Rattle.lb_base.specs.declared.key.Ty.TheVariants as types
 use Rattle.lb_label.specs.LabelText.{read_label}
-use Rattle.lb_tree.specs.declared.query.Tab.{Tab}
-use Rattle.lb_tree.specs.declared.query.Expr.{Expr}
 use Rattle.lb_stmt.specs.declared.write.Stmt.{Stmt}
 use Rattle.lb_stmt.specs.declared.change.Change.{Change}
 use Rattle.lb_rows.specs.Tables.{Tables}
@@ -18,9 +16,7 @@ use Rattle.lb_names.specs.declared.refused.Refused.{Refused}
 use Rattle.lb_names.specs.declared.refused.Refused.TheVariants as refused
 use Rattle.lb_names.specs.Kinds.{Kind, integer, text, date, label}
 use Rattle.lb_names.specs.Scopes.{Field, Catalogue}
-use Rattle.lb_names.specs.Statements.{names_refused, types_refused, permission_names_refused, permission_types_refused, permission_qualified, mask_names_refused, mask_takes, mask_qualified, broken, stored_place}
-use Rattle.lb_names.specs.Typed.{◌>>=◌, only_if}
-use Rattle.lb_names.specs.Typing.{means}
+use Rattle.lb_names.specs.Statements.{names_refused, types_refused, permission_names_refused, permission_types_refused, permission_qualified, mask_names_refused, mask_types_refused, mask_qualified}
 use Rattle.lb_names.specs.Qualified.{are_qualified, are_qualified_in}
 use Rattle.lb_alter.specs.Stored.{Checks}
 use Rattle.lb_alter.specs.Change.{change}
@@ -69,21 +65,17 @@ refusal_for (refused.Types at) = refusals.Types at
 abbrev pub statement_refused : List Table → List Policy → Stmt → Option Refusal
 statement_refused tables policies s = option_map refusal_for (option_or (names_refused (named_by tables policies) s) (types_refused (named_by tables policies) s))
 
--- the first refusal of a mask's CASE by types, which has the kind of the column's type
-abbrev pub mask_types_refused : Cat → Tab → Ty → Expr → Option Refused
-mask_types_refused C on ty e = broken ((means (named_in C) e).kind (stored_place on) 0 >>= λ x. only_if (mask_takes (named_in C) (kind_of_type ty ∷ []) x.0) 0 x)
-
 -- the rules for stored conditions
 abbrev pub stored_rules : Checks
 stored_rules = record {
   condition_names = λ C on c. option_map refusal_for (permission_names_refused (named_in C) on c);
   mask_names = λ C on e. option_map refusal_for (mask_names_refused (named_in C) on e);
   condition_types = λ C on c. option_map refusal_for (permission_types_refused (named_in C) on c);
-  mask_types = λ C on ty e. option_map refusal_for (mask_types_refused C on ty e);
+  mask_types = λ C on column e. option_map refusal_for (mask_types_refused (named_in C) on column e);
   qualified_condition = λ C on c. permission_qualified (named_in C) on c;
   qualified_mask = λ C on e. mask_qualified (named_in C) on e;
-  is_qualified = are_qualified;
-  is_qualified_mask = are_qualified_in;
+  are_qualified = are_qualified;
+  are_qualified_in = are_qualified_in;
 }
 
 -- what a change of the user makes of the catalogue and the rows, and its reply
