@@ -13,7 +13,7 @@ use Rattle.lb_alter.specs.Deps.{in_tables, policy_of_table, is_key_name, tables_
 use Rattle.lb_alter.specs.Frame.{SameOn}
 use Rattle.lb_alter.specs.Named.{HasFoldedNames}
 use Rattle.lb_alter.proofs.SoundUsers.{all_found}
-use Rattle.lb_alter.proofs.Steady.{all_front, all_behind, tables_same, policies_same}
+use Rattle.lb_alter.proofs.Steady.{all_front, all_after, tables_same, policies_same}
 use Rattle.lb_journal.specs.Rules.{fields_of, fault_in, named_in}
 
 find_passes : {A : Type 0} (test : A → Bool) (xs : List A) (r : A) → find test xs ≡ Some r → test r ≡ true
@@ -69,5 +69,5 @@ module _ (C D : Cat) (names_C : HasFoldedNames C) (names_D : HasFoldedNames D) w
   pub agree_on : (ms : Mentions) → SameOn (deps_of C ms) C D → AgreeOn (named_in C) (named_in D) ms
   agree_on ms same =
       let tables = all_front SameTable (tables_in ms) _ (tables_same C D ms same) in
-      let called = all_behind SamePolicy (filter_map (λ n. policy_of_table (table_named C n)) (tables_for C ms)) _ (policies_same C D ms same) in
+      let called = all_after SamePolicy (filter_map (λ n. policy_of_table (table_named C n)) (tables_for C ms)) _ (policies_same C D ms same) in
       agree_all ms tables (all_front SamePolicy (policies_in ms) _ (policies_all (policies_in ms ++ policies_in (in_tables C (tables_in ms))) called))
