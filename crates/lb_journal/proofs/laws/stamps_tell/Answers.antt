@@ -1,0 +1,8 @@
+use Rattle.lb_journal.proofs.Stamps.{stamps_tell, same_record}
+use Rattle.lb_journal.proofs.laws.stamps_tell.Goals as goal
+
+pub returns-clause-there : goal.returns-clause-there
+returns-clause-there c = stamps_tell
+
+pub returns-clause-same : goal.returns-clause-same
+returns-clause-same c = same_record

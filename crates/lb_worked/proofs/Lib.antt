@@ -1,0 +1,5 @@
+mod Computing
+mod Sure
+mod Orders
+mod Permitted
+mod Masked

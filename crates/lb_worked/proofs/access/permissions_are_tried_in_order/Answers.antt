@@ -1,0 +1,20 @@
+use Rattle.lb_worked.proofs.Permitted.{true_before_fault, fault_before_true, disabled, seen_before_joined, no_permission, nothing_to_count}
+use Rattle.lb_worked.proofs.access.permissions_are_tried_in_order.Goals as goal
+
+pub returns-clause-true_before_fault : goal.returns-clause-true_before_fault
+returns-clause-true_before_fault c = true_before_fault
+
+pub returns-clause-fault_before_true : goal.returns-clause-fault_before_true
+returns-clause-fault_before_true c = fault_before_true
+
+pub returns-clause-disabled : goal.returns-clause-disabled
+returns-clause-disabled c = disabled
+
+pub returns-clause-seen_before_joined : goal.returns-clause-seen_before_joined
+returns-clause-seen_before_joined c = seen_before_joined
+
+pub returns-clause-no_permission : goal.returns-clause-no_permission
+returns-clause-no_permission c = no_permission
+
+pub returns-clause-nothing_to_count : goal.returns-clause-nothing_to_count
+returns-clause-nothing_to_count c = nothing_to_count

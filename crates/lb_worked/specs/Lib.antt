@@ -1,0 +1,6 @@
+pub mod Trees
+pub mod Tables
+pub mod Sure
+pub mod Orders
+pub mod Permitted
+pub mod Masked
