@@ -1,3 +1,4 @@
 pub mod Passed
 pub mod Tokened
 pub mod Quits
+pub mod Firsts

@@ -56,7 +56,7 @@ none_passed (b ∷ bs) h = go (b == 39) (b == 45) (split.begins 45 bs) (is_white
         no false true false e f h = absurd cc
         no false false z e f h = absurd cc
 
-gap_len_of : (gap rest : List ℕ) → Gap gap rest → begins_gap rest ≡ false → gap_len (gap ++ rest) ≡ length gap
+pub gap_len_of : (gap rest : List ℕ) → Gap gap rest → begins_gap rest ≡ false → gap_len (gap ++ rest) ≡ length gap
 gap_len_of gap rest g h = let passed = gap_passed is_gap gaps_pass gap rest g in let none = none_passed rest h in omega (arith, passed, none)
 
 -- the gap that a text begins with, and what follows it
@@ -85,7 +85,7 @@ begun text =
 
 -- ---- blank statements
 
-is_length : (n m : ℕ) → (n == m) ≡ true → n ≡ m
+pub is_length : (n m : ℕ) → (n == m) ≡ true → n ≡ m
 is_length n m h = grind (arith, nat_tests)
 
 empty : (xs : List ℕ) → length xs ≡ 0 → xs ≡ []
@@ -100,13 +100,13 @@ blank_gap text h =
     let all : text ≡ b.gap = b.whole ∙ ap (λ (u : List ℕ). b.gap ++ u) none ∙ append-nil b.gap in
     subst (λ (u : List ℕ). Gap u []) (sym all) (subst (λ (u : List ℕ). Gap b.gap u) none b.is_gap)
 
-gap_blank : (text : List ℕ) → Gap text [] → split.is_blank text ≡ true
+pub gap_blank : (text : List ℕ) → Gap text [] → split.is_blank text ≡ true
 gap_blank text g =
     let passed = gap_passed is_gap gaps_pass text [] g in
     let size : gap_len text ≡ length text = ap gap_len (sym (append-nil text)) ∙ passed ∙ omega arith in
     eq-eqb (gap_len text) (length text) size
 
-no_tokens_gap : (text : List ℕ) (ss : List Span) → LexedFrom 0 text [] ss None → Gap text []
+pub no_tokens_gap : (text : List ℕ) (ss : List Span) → LexedFrom 0 text [] ss None → Gap text []
 no_tokens_gap text [] h = h
 no_tokens_gap text (s ∷ ss) h = absurd h
 

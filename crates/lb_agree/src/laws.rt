@@ -1,7 +1,8 @@
 // Laws over the definitions. Each is the contract of a function that does nothing.
 ghost use Rattle.std.specs.Prelude.{◌≡◌, ◌+◌, ◌↔◌, ℕ, true, false, List, [], ◌∷◌, None, Some, drop, length};
 ghost use Rattle.lb_stmt.specs.declared.write.Stmt.{Stmt};
-ghost use Rattle.lb_split.specs.Lexing.{begins, statement_len, is_blank, is_quit};
+ghost use Rattle.lb_split.specs.Lexing.{begins, gap_len, statement_len, is_blank, is_quit};
+ghost use Rattle.lb_tok.specs.declared.token.Span.{Span};
 ghost use Rattle.lb_tok.specs.declared.token.Tokens.{Tokens};
 ghost use Rattle.lb_tok.specs.Lexing.{Lexed};
 ghost use Rattle.lb_tok.specs.Spelled.{AreTokens};
@@ -19,8 +20,15 @@ pub fn pieces_and_tokens_agree()
     ensures no_end { (text : List ℕ) (found : Tokens) (at : ℕ) → Lexed text found → found.stop ≡ Some at → statement_len text ≡ length text → begins 59 (drop at text) ≡ false }
 {}
 
-/// No `;` in a text that is read as a statement ends a statement: a script that has the text, and then a `;`, is not cut
-/// within it.
+/// The gap that pieces pass over, to see whether a `@` follows, is the one before the first token.
+pub fn the_first_token_stands_after_the_gap()
+    // A text that has a token has its first one there.
+    ensures first { (text : List ℕ) (found : Tokens) (s : Span) (ss : List Span) → Lexed text found → found.spans ≡ s ∷ ss → s.from ≡ gap_len text }
+    // A text that has none, for a byte that begins no token, as `@`, has that byte there.
+    ensures stopped { (text : List ℕ) (found : Tokens) (at : ℕ) → Lexed text found → found.tokens ≡ [] → found.stop ≡ Some at → at ≡ gap_len text }
+{}
+
+/// No `;` in a text that is read as a statement ends a statement, so the text is not cut.
 pub fn a_statement_that_is_read_is_cut_nowhere()
     ensures { (text : List ℕ) (s : Stmt) → IsTextOf text s → statement_len text ≡ length text }
 {}

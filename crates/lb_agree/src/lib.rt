@@ -6,5 +6,5 @@ mod laws;
 
 pub use laws::{
     a_blank_statement_has_no_tokens, a_statement_that_is_read_is_cut_nowhere,
-    pieces_and_tokens_agree, quit_is_its_one_token,
+    pieces_and_tokens_agree, quit_is_its_one_token, the_first_token_stands_after_the_gap,
 };

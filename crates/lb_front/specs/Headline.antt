@@ -12,6 +12,10 @@ use Rattle.lb_model.specs.Out.{bad_script_text}
 use Rattle.lb_model.specs.Sections.{Section, SectionResult, Journaled, out, IsFront}
 use Rattle.lb_front.specs.Scripted.{sections_in}
 
+-- the journal of a run has at most so many entries
+abbrev pub most_entries : ℕ
+most_entries = 1048576
+
 -- what a call found of the clock and of the sink, and what it left
 pub record Outside : Type 0 where
   pub given : Option (List ℤ)

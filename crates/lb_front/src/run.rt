@@ -5,7 +5,7 @@ ghost use Rattle.lb_model.specs.Out.{bad_script_text};
 ghost use Rattle.lb_wire.specs.Causes.{Rose};
 ghost use Rattle.lb_wire.specs.declared.status.Status.TheVariants as statuses;
 ghost use Rattle.lb_wire.specs.Inputs.{IsRunnable};
-ghost use Rattle.lb_front.specs.Headline.{Ends, IsAnswered, outside_of};
+ghost use Rattle.lb_front.specs.Headline.{Ends, IsAnswered, most_entries, outside_of};
 ghost use Rattle.lb_front.specs.Scripted.{sections_in};
 ghost use Rattle.lb_front.specs.Running.{ScriptEnds, BrokenEnds};
 
@@ -34,7 +34,7 @@ pub fn run_alone<S: Source, K: Sink, C: Clock>(
     ensures read { result ≡ statuses.ReadFault → Rose (S.faults source.old) (S.faults source.new) }
     ensures write { result ≡ statuses.WriteFault → Rose (K.faults sink.old) (K.faults sink.new) }
     ensures line { (n : ℕ) → result ≡ statuses.BadScript n → Appends (K.written sink.old) (K.written sink.new) (bad_script_text n) ⊎ Rose (K.faults sink.old) (K.faults sink.new) }
-    ensures ends { Ends result 1048576 (S.left source.old) (S.left source.new) (outside_of (C.given clock.old) (C.given clock.new) (K.written sink.old) (K.written sink.new)) }
+    ensures ends { Ends result most_entries (S.left source.old) (S.left source.new) (outside_of (C.given clock.old) (C.given clock.new) (K.written sink.old) (K.written sink.new)) }
     ensures complete { words.now ≡ codes "run" ∷ [] → IsRunnable (S.left source.old) → (Rose (S.faults source.old) (S.faults source.new) → ⊥) → (Rose (K.faults sink.old) (K.faults sink.new) → ⊥) → IsAnswered result }
 {
     if !is_run(words) {

@@ -30,6 +30,10 @@ fits [] [] = true
 fits (c ∷ cs) (v ∷ vs) = not (is_too_wide c.ty v) && fits cs vs
 fits _ _ = false
 
+-- a table has at most so many cells, its rows times its columns
+abbrev pub most_cells : ℕ
+most_cells = 131072
+
 -- rows times columns
 abbrev pub cells : TableRec → List (List Value) → ℕ
 cells t rows = length rows * length t.columns
@@ -37,7 +41,7 @@ cells t rows = length rows * length t.columns
 -- the rows do not fit the table, or it would get too many cells by rows that may be inserted
 abbrev pub is_insert_unbuilt : List ℕ → Option TableRec → List (List Value) → List (List Value) → Bool
 is_insert_unbuilt user None old rows = false
-is_insert_unbuilt user (Some t) old rows = list_any (λ row. not (fits t.columns row)) rows || (are_insertable user t rows && nat_lt 131072 (cells t (old ++ rows)))
+is_insert_unbuilt user (Some t) old rows = list_any (λ row. not (fits t.columns row)) rows || (are_insertable user t rows && nat_lt most_cells (cells t (old ++ rows)))
 
 -- the rows that the statement gives, where it is an INSERT of VALUES
 abbrev pub rows_given : Stmt → List (List Value)

@@ -2,7 +2,7 @@
 ghost use Rattle.std.specs.Prelude.{◌≡◌, ◌+◌, ◌*◌, ◌&&◌, ◌||◌, not, nat_lt, length, is_some};
 ghost use Rattle.std.specs.List.{list_any};
 ghost use Rattle.lb_model.specs.Catalog.{table_named, rows_of};
-ghost use Rattle.lb_model.specs.NotYet.{is_too_wide, fits, is_insert_unbuilt};
+ghost use Rattle.lb_model.specs.NotYet.{is_too_wide, fits, is_insert_unbuilt, most_cells};
 
 use crate::condition::are_rows_insertable;
 use crate::find::{place_of_version, table_of};
@@ -91,7 +91,7 @@ fn number_of_rows(versions: &[TableVersion], name: &str) -> usize
 
 // A sum or a product that is too large for its type is over the limit too.
 fn is_over_cells(old: usize, more: usize, columns: usize) -> bool
-    ensures { result ≡ nat_lt 131072 ((old + more) * columns) }
+    ensures { result ≡ nat_lt most_cells ((old + more) * columns) }
 {
     old.saturating_add(more).saturating_mul(columns) > MOST_CELLS
 }

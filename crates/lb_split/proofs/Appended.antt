@@ -4,7 +4,7 @@ use Rattle.std.specs.Prelude.{min, ◌==◌, ◌&&◌, ◌||◌, not}
 use Rattle.std.specs.List.{prefix_len}
 use Rattle.std.proofs.lemmas.Bool.Decides.{nat_tests}
 use Rattle.std.proofs.lemmas.List.{drop-append-le, take-append-le, length-append}
-use Rattle.lb_split.specs.Lexing.{is_white, begins, behind, passed_len, is_gap, is_inside, gap_len, statement_len, is_blank, white_len, is_quit, line_len, next_line}
+use Rattle.lb_split.specs.Lexing.{is_white, begins, behind, passed_len, is_gap, is_inside, gap_len, statement_len, is_blank, white_len, is_quit, line_len, next_line, next_header_line}
 use Rattle.lb_split.specs.Pieces.{statement_of, piece_kind, piece_at, taken, with_some, pieces_from, first_of, resumed, HasEnded, GoesOnThere}
 use Rattle.lb_split.specs.declared.piece.Piece.{Piece}
 use Rattle.lb_split.specs.declared.piece.Piece.TheVariants as pieces
@@ -244,6 +244,21 @@ statement_stays bytes more at lt kind ended =
     let resumes : min (at + n + 1) (length (bytes ++ more)) ≡ min (at + n + 1) (length bytes) = omega (arith, to, length-append bytes more) in
     (there ∙ sym here, subst (λ (p : Piece). GoesOnThere bytes (bytes ++ more) p) (sym here) resumes)
 
+-- a line that begins with `@` stays the first one
+mark_stays : (xs more : List ℕ) → next_header_line xs < length xs → next_header_line (xs ++ more) ≡ next_header_line xs
+mark_stays [] more lt = absurd (omega (arith, lt))
+mark_stays (b ∷ []) more lt = absurd (alone (b == 10) lt)
+  where
+    alone : (m : Bool) → cond (m && false) 1 (0 + 1) < 1 → ⊥
+    alone true lt = absurd (omega (arith, lt))
+    alone false lt = absurd (omega (arith, lt))
+mark_stays (b ∷ c ∷ cs) more lt = go (b == 10 && c == 64) (λ later. mark_stays (c ∷ cs) more later) lt
+  where
+    go : (m : Bool) → (next_header_line (c ∷ cs) < length (c ∷ cs) → next_header_line ((c ∷ cs) ++ more) ≡ next_header_line (c ∷ cs)) → cond m 1 (next_header_line (c ∷ cs) + 1) < length (b ∷ c ∷ cs)
+        → cond m 1 (next_header_line ((c ∷ cs) ++ more) + 1) ≡ cond m 1 (next_header_line (c ∷ cs) + 1)
+    go true stays lt = refl
+    go false stays lt = ap (λ (n : ℕ). n + 1) (stays (omega (arith, lt)))
+
 quit_stays : (bytes more : List ℕ) (at : ℕ) → at < length bytes → piece_kind (drop at bytes) ≡ piece_kinds.Quit → Stays bytes more at
 unfolding Stays
 quit_stays bytes more at lt kind ended =
@@ -258,7 +273,11 @@ quit_stays bytes more at lt kind ended =
     let there : first_of (pieces_from (bytes ++ more) at) ≡ pieces.Quit (at + white_len text) (at + n) =
     ap first_of (step (bytes ++ more) at piece_kinds.Quit (longer bytes more at lt) kind_now)
     ∙ ap (λ (m : ℕ). pieces.Quit (at + m) (at + statement_len (drop at (bytes ++ more)))) white_now ∙ ap (λ (m : ℕ). pieces.Quit (at + white_len text) (at + m)) len_now in
-    (there ∙ sym here, subst (λ (p : Piece). GoesOnThere bytes (bytes ++ more) p) (sym here) tt)
+    let resumes : at + n + next_header_line (drop (at + n) bytes) < length bytes → at + n + next_header_line (drop (at + n) (bytes ++ more)) ≡ at + n + next_header_line (drop (at + n) bytes) =
+    λ lt_mark.
+    ap (λ (t : List ℕ). at + n + next_header_line t) (rest_of bytes more (at + n) to)
+    ∙ ap (λ (m : ℕ). at + n + m) (mark_stays (drop (at + n) bytes) more (omega (arith, lt_mark, length-drop (at + n) bytes))) in
+    (there ∙ sym here, subst (λ (p : Piece). GoesOnThere bytes (bytes ++ more) p) (sym here) resumes)
 
 header_stays_whole : (bytes more : List ℕ) (at : ℕ) → at < length bytes → piece_kind (drop at bytes) ≡ piece_kinds.Header → Stays bytes more at
 unfolding Stays

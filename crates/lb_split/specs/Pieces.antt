@@ -99,10 +99,10 @@ HasEnded bytes (pieces.Statement from to) = to < length bytes
 HasEnded bytes (pieces.Quit from to) = to < length bytes
 HasEnded bytes pieces.End = ⊥
 
--- what comes after the piece starts at the same offset in both inputs; of QUIT nothing is said, since all up to a line that begins with `@`
--- is passed over
+-- what comes after the piece starts at the same offset in both inputs; after QUIT it does where the line that begins with `@`, up to which all
+-- is passed over, stands in the first input
 abbrev pub GoesOnThere : List ℕ → List ℕ → Piece → Type 0
 GoesOnThere bytes longer (pieces.Header from to) = resumed longer (pieces.Header from to) ≡ resumed bytes (pieces.Header from to)
 GoesOnThere bytes longer (pieces.Statement from to) = resumed longer (pieces.Statement from to) ≡ resumed bytes (pieces.Statement from to)
-GoesOnThere bytes longer (pieces.Quit from to) = ⊤
+GoesOnThere bytes longer (pieces.Quit from to) = resumed bytes (pieces.Quit from to) < length bytes → resumed longer (pieces.Quit from to) ≡ resumed bytes (pieces.Quit from to)
 GoesOnThere bytes longer pieces.End = ⊤

@@ -15,7 +15,7 @@ use Rattle.lb_turn.specs.declared.rule.Role.{Role}
 use Rattle.lb_turn.specs.declared.rule.Role.TheVariants.{Idle, Waits, Turns}
 use Rattle.lb_turn.specs.declared.rule.Known.{Known}
 use Rattle.lb_turn.specs.declared.rule.View.{View}
-use Rattle.lb_turn.specs.Known.{known, nothing, united, IsKnown, IsWhole, Grows, Belongs, Divides}
+use Rattle.lb_turn.specs.Known.{known, nothing, united, IsKnown, IsWhole, Grows, Belongs, Divides, all_parts}
 use Rattle.lb_turn.specs.Rule.{ticketed, HasTicket, IsStill, IsPlaced, IsPlacedAs, starting, spent_view, out, Owns, AreOwned, IsSeated, Turned}
 use Rattle.lb_turn.specs.Steps.{Draws, Looks, Counts, Merges, Records, PassesOn, kept_view, given_view, joined_view}
 use Rattle.lb_turn.proofs.Places.{not_in_none, in_one, is_one, prefix_length, known_nothing, known_whole, below_log, grows_whole, grows_left, grows_right, known_united, known_recorded, known_beside, prefix_same}
@@ -51,7 +51,7 @@ module _ {S N : Type 0} (history : S → List N) (root : List N → ℕ → ℕ)
       (λ same. subst IsStill (sym (ap (λ x. x.role) (same_view vs id j v u at e same) ∙ idle)) tt)
       (λ apart. still j u (set_else vs id j w apart ∙ e))
 
-  few : (s : State (Option S) (View N)) (h : Rule s) → length h.queue ≤ 65
+  few : (s : State (Option S) (View N)) (h : Rule s) → length h.queue ≤ all_parts
   few s h = omega (arith, out_le s.views (λ i u e. (h.each i u e).live), h.counted, h.whole)
 
   owns_below : (served : ℕ) (queue : List ℕ) (log : List N) (seat : ℕ) (u : View N) → Seated served queue log seat u → (place : ℕ) → Owns u place → place < length log
@@ -61,7 +61,7 @@ module _ {S N : Type 0} (history : S → List N) (root : List N → ℕ → ℕ)
       o
 
   -- who has all parts owns each place of the history, and so has seen it whole
-  whole_of : (s : State (Option S) (View N)) (h : Rule s) (id : ℕ) (v : View N) → get_elem? s.views id ≡ some v → v.parts ≡ 65 → v.other ≡ nothing → IsWhole v.known h.log
+  whole_of : (s : State (Option S) (View N)) (h : Rule s) (id : ℕ) (v : View N) → get_elem? s.views id ≡ some v → v.parts ≡ all_parts → v.other ≡ nothing → IsWhole v.known h.log
   whole_of s h id v at all alone =
       let was = h.each id v at in
       let mine : (place : ℕ) → place < length h.log → Contains v.known.own place = λ place lt.
@@ -268,7 +268,7 @@ module _ {S N : Type 0} (history : S → List N) (root : List N → ℕ → ℕ)
       }
 
   -- at the end the state is at home
-  pub ends : (id : ℕ) (v : View N) (words : List ℕ) (xs : List (Option S)) → v.role ≡ Idle → v.other ≡ nothing → v.parts ≡ 65 → Final (Seen (Turned history root number key) id v) words xs
+  pub ends : (id : ℕ) (v : View N) (words : List ℕ) (xs : List (Option S)) → v.role ≡ Idle → v.other ≡ nothing → v.parts ≡ all_parts → Final (Seen (Turned history root number key) id v) words xs
       → (x : S) × (get_elem? xs 0 ≡ some (Some x)) × IsWhole v.known (history x) × (number x ≡ key)
   ends id v words xs idle alone all f =
       let s = f.0 in let h = f.1.0 in let at = f.1.1 in

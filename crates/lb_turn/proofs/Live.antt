@@ -6,6 +6,7 @@ use lib.ListN.{get_elem?}
 use Rattle.lb_turn.specs.declared.rule.View.{View}
 use Rattle.lb_turn.specs.Laws.{live, LiveViews}
 use Rattle.lb_turn.specs.Rule.{shares}
+use Rattle.lb_turn.specs.Known.{all_parts}
 
 abbrev one_if : Bool → ℕ
 one_if b = if b then 1 else 0
@@ -27,7 +28,7 @@ module _ {N : Type 0} where
       omega arith
 
   live_beside : (vs : List (View N)) (chief : View N) (passes : ℕ) → get_elem? vs 0 ≡ some chief → ((i : ℕ) (v : View N) → get_elem? vs i ≡ some v → 0 < i → v.parts ≤ 1)
-      → 0 < chief.parts → chief.parts + passes ≡ 65 → shares vs ≡ 65 → live vs ≡ passes + 1
+      → 0 < chief.parts → chief.parts + passes ≡ all_parts → shares vs ≡ all_parts → live vs ≡ passes + 1
   live_beside [] chief passes at all some_part rest whole = absurd (some-ne-none chief (sym at))
   live_beside (x ∷ xs) chief passes at all some_part rest whole =
       let same : x.parts ≡ chief.parts = ap (λ v. v.parts) (some-injective x chief at) in

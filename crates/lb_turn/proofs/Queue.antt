@@ -11,6 +11,7 @@ use Rattle.lb_turn.specs.declared.rule.Role.TheVariants.{Idle, Waits, Turns}
 use Rattle.lb_turn.specs.declared.rule.View.{View}
 use Rattle.lb_turn.specs.Rule.{HasTicket, IsStill, IsPlacedAs, AreOut}
 use Rattle.lb_turn.proofs.Views.{same_view, set_there}
+use Rattle.lb_turn.specs.Known.{all_parts}
 
 pub get_below : (queue : List ℕ) (k seat : ℕ) → get_elem? queue k ≡ some seat → k < length queue
 get_below [] k seat e = absurd (some-ne-none seat (sym e))
@@ -89,7 +90,7 @@ module _ {N : Type 0} where
       (at_end queue id seat k e)
 
   -- the first ticket is done
-  pub out_passed : (served : ℕ) (queue : List ℕ) (vs : List (View N)) (id t : ℕ) (v w : View N) → get_elem? vs id ≡ some v → v.role ≡ Turns t → t ≡ (served + 0) % 2 ^ 64 → length queue ≤ 65
+  pub out_passed : (served : ℕ) (queue : List ℕ) (vs : List (View N)) (id t : ℕ) (v w : View N) → get_elem? vs id ≡ some v → v.role ≡ Turns t → t ≡ (served + 0) % 2 ^ 64 → length queue ≤ all_parts
       → AreOut served queue vs → AreOut ((served + 1) % 2 ^ 64) (drop 1 queue) (set vs id w)
   out_passed served queue vs id t v w at turns mine few all k seat e =
       let e' : get_elem? queue (suc k) ≡ some seat = sym (rest_get queue k) ∙ e in

@@ -4,6 +4,10 @@ use Rattle.std.specs.List.{Contains, filter}
 use mathlib.Core.List.{IsPrefix}
 use Rattle.lb_turn.specs.declared.rule.Known.{Known}
 
+-- the parts that all seats of a turn have together: one for the chief, and one for each of the 64 passes that may be live beside it
+abbrev pub all_parts : ℕ
+all_parts = 65
+
 -- the greatest of these places
 abbrev pub greatest : List ℕ → ℕ
 greatest [] = 0

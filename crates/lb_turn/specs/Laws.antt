@@ -5,6 +5,7 @@ use lib.ListN.{get_elem?}
 use Rattle.atomic_table.specs.Table.{State}
 use Rattle.lb_turn.specs.declared.rule.View.{View}
 use Rattle.lb_turn.specs.Rule.{Turned}
+use Rattle.lb_turn.specs.Known.{all_parts}
 
 module _ {N : Type 0} where
   -- how many views are live
@@ -16,5 +17,5 @@ module _ {S N : Type 0} (history : S → List N) (root : List N → ℕ → ℕ)
   -- While the chief is there, the live views are the chief's and as many more as the chief's number says, which is at most 64.
   abbrev pub LiveViews : Type 0
   LiveViews = (key passes : ℕ) (s : State (Option S) (View N)) (chief : View N)
-      → Turned history root number key s → get_elem? s.views 0 ≡ some chief → 0 < chief.parts → chief.parts + passes ≡ 65
+      → Turned history root number key s → get_elem? s.views 0 ≡ some chief → 0 < chief.parts → chief.parts + passes ≡ all_parts
       → (live s.views ≡ passes + 1) × (passes ≤ 64)

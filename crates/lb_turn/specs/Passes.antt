@@ -6,7 +6,7 @@ use Rattle.lb_turn.specs.declared.rule.View.{View}
 use Rattle.lb_turn.specs.declared.pass.Pass.{Pass}
 use Rattle.lb_turn.specs.declared.chief.Chief.{Chief}
 use Rattle.lb_turn.specs.declared.turn.Turn.{Turn}
-use Rattle.lb_turn.specs.Known.{nothing}
+use Rattle.lb_turn.specs.Known.{nothing, all_parts}
 use Rattle.lb_turn.specs.Rule.{spent_view}
 
 module _ {N : Type 0} where
@@ -38,7 +38,7 @@ module _ {N : Type 0} where
 
   -- every part is with it: no other pass is live
   abbrev pub HasAllParts : Pass N → Type 0
-  HasAllParts p = (view_by p).parts ≡ 65
+  HasAllParts p = (view_by p).parts ≡ all_parts
 
   -- it is the same seat at the same turn
   abbrev pub IsSameSeat : Pass N → Pass N → Type 0
@@ -61,4 +61,4 @@ module _ {S N : Type 0} (number : S → ℕ) where
 
   -- the chief is of this turn, its pass is idle and its own seat, and all parts but those of its passes are with it
   abbrev pub IsChief : Turn S N → Chief N → Type 0
-  IsChief turn c = IsIdle turn c.pass × (c.pass.badge.id ≡ 0) × ((view_by c.pass).parts + c.passes ≡ 65)
+  IsChief turn c = IsIdle turn c.pass × (c.pass.badge.id ≡ 0) × ((view_by c.pass).parts + c.passes ≡ all_parts)

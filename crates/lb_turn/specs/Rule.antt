@@ -8,7 +8,7 @@ use Rattle.atomic_table.specs.Table.{State}
 use Rattle.lb_turn.specs.declared.rule.Role.{Role}
 use Rattle.lb_turn.specs.declared.rule.Role.TheVariants.{Idle, Waits, Turns}
 use Rattle.lb_turn.specs.declared.rule.View.{View}
-use Rattle.lb_turn.specs.Known.{nothing, IsKnown}
+use Rattle.lb_turn.specs.Known.{nothing, IsKnown, all_parts}
 
 -- how many tickets a seat has
 abbrev pub ticketed : Role → ℕ
@@ -34,7 +34,7 @@ IsPlaced served queue seat t k = (get_elem? queue k ≡ some seat) × (t ≡ (se
 module _ {N : Type 0} where
   -- the seat 0 begins with every part
   abbrev pub starting : ℕ → View N
-  starting n = record { role = Idle; known = nothing; other = nothing; number = n; parts = 65 }
+  starting n = record { role = Idle; known = nothing; other = nothing; number = n; parts = all_parts }
 
   -- what is left of a seat that was joined to another
   abbrev pub spent_view : View N
@@ -110,7 +110,7 @@ module _ {S N : Type 0} (history : S → List N) (root : List N → ℕ → ℕ)
     pub disjoint : AreDisjoint s.views
     pub owned : AreOwned s.views (length log)
     -- all parts are there
-    pub whole : shares s.views ≡ 65
+    pub whole : shares s.views ≡ all_parts
     -- the slot is empty only while some view has found its turn
     pub slots : length s.homes ≡ 1
     pub home : ((seat : ℕ) (v : View N) → get_elem? s.views seat ≡ some v → IsStill v.role) → IsHome key log s.homes

@@ -4,7 +4,7 @@ use mathlib.Core.Option.{some}
 use Rattle.atomic_table.specs.Table.{Me, Step}
 use Rattle.lb_turn.specs.declared.rule.Role.TheVariants.{Idle, Waits, Turns}
 use Rattle.lb_turn.specs.declared.rule.View.{View}
-use Rattle.lb_turn.specs.Known.{known, nothing, united, IsWithin, IsWhole, Grows}
+use Rattle.lb_turn.specs.Known.{known, nothing, united, IsWithin, IsWhole, Grows, all_parts}
 
 module _ {S N : Type 0} where
   -- 1. It draws a ticket: the number found.
@@ -15,7 +15,7 @@ module _ {S N : Type 0} where
   abbrev pub Looks : (S → List N) → (List N → ℕ → ℕ) → (S → ℕ) → Step (Option S) → Me (Option S) (View N) → ℕ → Me (Option S) (View N) → Type 0
   Looks history root number st m found m' =
       (t : ℕ) → m.0.role ≡ Waits t → (found ≢ t → m' ≡ m)
-      × (found ≡ t → (x : S) × (m'.1 ≡ (0, Some x) ∷ m.1) × (m'.0 ≡ record m.0 { role = Turns t; known = known (history x) m.0.known.own }) × Grows root m.0.known (history x) × (number x ≡ m.0.number) × IsWithin m.0.known × (m.0.parts ≡ 65 → m.0.other ≡ nothing → IsWhole m.0.known (history x)))
+      × (found ≡ t → (x : S) × (m'.1 ≡ (0, Some x) ∷ m.1) × (m'.0 ≡ record m.0 { role = Turns t; known = known (history x) m.0.known.own }) × Grows root m.0.known (history x) × (number x ≡ m.0.number) × IsWithin m.0.known × (m.0.parts ≡ all_parts → m.0.other ≡ nothing → IsWhole m.0.known (history x)))
 
   -- 3. It loads the count. While it has its turn, that is how many entries it has seen.
   abbrev pub Counts : Step (Option S) → Me (Option S) (View N) → ℕ → Me (Option S) (View N) → Type 0
@@ -25,7 +25,7 @@ module _ {S N : Type 0} where
   abbrev pub Merges : (List N → ℕ → ℕ) → Step (Option S) → Me (Option S) (View N) → ℕ → Me (Option S) (View N) → Type 0
   Merges root st m found m' =
       (m' ≡ (record m.0 { known = united m.0.known m.0.other; other = nothing }, m.1))
-      × Grows root m.0.known (united m.0.known m.0.other).seen × Grows root m.0.other (united m.0.known m.0.other).seen × (m.0.parts ≤ 65)
+      × Grows root m.0.known (united m.0.known m.0.other).seen × Grows root m.0.other (united m.0.known m.0.other).seen × (m.0.parts ≤ all_parts)
       × IsWithin (united m.0.known m.0.other)
 
   -- 4. It records the last entry of the announced state's history: it has seen that history, and the entry's place is its own.

@@ -3,7 +3,7 @@
 ghost use Rattle.std.specs.Prelude.{◌≡◌, ◌+◌, ◌^◌, ◌<◌, ◌≤◌, [], ◌∷◌, ◌++◌, length, IsSome};
 ghost use Rattle.lb_turn.specs.declared.rule.Role.TheVariants.{Idle};
 ghost use Rattle.lb_turn.specs.Holding.{HasTurn, history_of, number_of};
-ghost use Rattle.lb_turn.specs.Known.{known, nothing, united, IsWithin, IsWhole, Grows, Belongs, Divides};
+ghost use Rattle.lb_turn.specs.Known.{known, nothing, united, IsWithin, IsWhole, Grows, Belongs, Divides, all_parts};
 ghost use Rattle.lb_turn.specs.Steps.{kept_view, given_view};
 
 use crate::rule::{Count, Cut, Draw, Glue, Handing, Look, Merge, PassOn, Record, View};
@@ -45,7 +45,7 @@ impl<S: Standing> Turn<S> {
         ensures grows { Grows S.root seat.old.me.0.known seat.new.me.0.known.seen }
         ensures own { seat.new.me.0.known.own ≡ seat.old.me.0.known.own }
         ensures within { IsWithin seat.old.me.0.known }
-        ensures whole { seat.old.me.0.parts ≡ 65 → IsWhole seat.old.me.0.known seat.new.me.0.known.seen }
+        ensures whole { seat.old.me.0.parts ≡ all_parts → IsWhole seat.old.me.0.known seat.new.me.0.known.seen }
         ensures kept { (seat.new.me.0.number ≡ seat.old.me.0.number) × (seat.new.me.0.parts ≡ seat.old.me.0.parts) }
     {
         let ticket = self.table.shared.fetch_add::<Draw<S>>(seat, NEXT, 1);
@@ -120,7 +120,7 @@ impl<S: Standing> Turn<S> {
         ensures same { (seat.new.table_id ≡ seat.old.table_id) × (seat.new.id ≡ seat.old.id) }
         ensures joined { seat.new.me ≡ (record seat.old.me.0 { known = united seat.old.me.0.known other.me.0.known; parts = seat.old.me.0.parts + other.me.0.parts }, seat.old.me.1) }
         ensures grows { Grows S.root seat.old.me.0.known seat.new.me.0.known.seen × Grows S.root other.me.0.known seat.new.me.0.known.seen }
-        ensures parts { seat.new.me.0.parts ≤ 65 }
+        ensures parts { seat.new.me.0.parts ≤ all_parts }
         ensures within { IsWithin seat.new.me.0.known }
     {
         self.table.shared.join_seat::<Glue>(seat, other);
@@ -131,7 +131,7 @@ impl<S: Standing> Turn<S> {
     pub(crate) fn take_apart(self, seat: TurnSeat<S, S::Entry>) -> Option<S>
         requires same { seat.table_id ≡ self.table.shared.table_id }
         requires idle { (seat.me.0.role ≡ Idle) × (seat.me.0.other ≡ nothing) × (seat.me.1 ≡ []) }
-        requires all { seat.me.0.parts ≡ 65 }
+        requires all { seat.me.0.parts ≡ all_parts }
         ensures there { IsSome result }
         ensures whole { IsWhole seat.me.0.known (history_of S.history result) }
         ensures number { number_of S.number result ≡ S.number self.table.shared.key.value }
