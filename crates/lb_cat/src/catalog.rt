@@ -23,6 +23,7 @@ pub struct ColumnRec {
     pub secured: Option<Name>,
 }
 
+/// The columns of a table, in their order.
 pub type ColumnRecs = Listing<ColumnRec>;
 
 /// A row permission of a table (CREATE PERMISSION statement).
@@ -36,6 +37,7 @@ pub struct PermissionRec {
     pub enabled: bool,
 }
 
+/// The row permissions of a table, in the order of creation.
 pub type PermissionRecs = Listing<PermissionRec>;
 
 /// A column mask of a table (CREATE MASK statement).
@@ -51,6 +53,7 @@ pub struct MaskRec {
     pub enabled: bool,
 }
 
+/// The column masks of a table, in the order of creation.
 pub type MaskRecs = Listing<MaskRec>;
 
 /// The record of a table, without its rows.
@@ -84,6 +87,7 @@ pub struct LabelRec {
     pub parts: Parts,
 }
 
+/// The labels of a policy, in the order of creation.
 pub type LabelRecs = Listing<LabelRec>;
 
 /// The record of a security policy.
@@ -115,6 +119,7 @@ pub struct Grant {
     pub privileges: Privileges,
 }
 
+/// What a user was granted on tables, at most one entry for a table.
 pub type Grants = Listing<Grant>;
 
 /// What a user holds of one policy: a label for reading, one for writing, and exemptions.
@@ -126,6 +131,7 @@ pub struct Holding {
     pub exempt: Exempt,
 }
 
+/// What a user holds of policies, at most one entry for a policy.
 pub type Holdings = Listing<Holding>;
 
 /// The record of a user to whom something was granted.
