@@ -19,7 +19,7 @@ use Rattle.lb_answer.specs.Answer.{Answered}
 use Rattle.lb_journal.specs.Rules.{stored_rules, answered_to}
 use Rattle.lb_journal.specs.State.{State, first, put_maybe, rows_touched, answered, outcome, step, is_there, stamp_after, left_by, after}
 use Rattle.lb_journal.specs.Replay.{Steps, Runs, Replay}
-use Rattle.lb_journal.specs.Laws.{is_user_key, SameAt, StampsTell, SameStampSameRecord}
+use Rattle.lb_journal.specs.Laws.{is_user_key, SameAt, AbsentIsZero, StampsTell, SameStampSameRecord}
 
 -- ---- the same record and the same rows
 
@@ -172,6 +172,24 @@ first_stamped (keys.User n) u there = absurd cc
 pub stamps_tell : StampsTell
 unfolding IsStamped
 stamps_tell J S k h u there = all_stamped 0 first J S k h (first_stamped k u) there
+
+-- what isn't there has the stamp 0
+IsZero : Key → State → Type 0
+IsZero k S = is_there S.cat S.tables k ≡ false → S.stamp k ≡ 0
+
+zero_by : (at : ℕ) (S U : State) (k : Key) → By at k S U → IsZero k S → IsZero k U
+unfolding By IsZero
+zero_by at S U k (inl b) h gone = absurd (let j : true ≡ false = sym b.0 ∙ gone in cc)
+zero_by at S U k (inr (inl b)) h gone = b.1
+zero_by at S U k (inr (inr b)) h gone = b.1 ∙ h (sym (there_stays k S U b.0) ∙ gone)
+
+all_zero : (at : ℕ) (S : State) (es : List Entry) (T : State) (k : Key) → Runs at S es T → IsZero k S → IsZero k T
+all_zero at S [] T k h i = subst (λ (U : State). IsZero k U) (sym h) i
+all_zero at S (e ∷ es) T k h i = all_zero (at + 1) h.0 es T k h.2 (zero_by at S h.0 k (entry_by at S e h.0 k h.1) i)
+
+pub absent_is_zero : AbsentIsZero
+unfolding IsZero
+absent_is_zero J S k h gone = all_zero 0 first J S k h (λ g. refl) gone
 
 -- ---- equal stamps
 

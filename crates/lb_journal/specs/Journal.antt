@@ -20,6 +20,7 @@ opened_by (entries.Open user groups ∷ es) zero = Some (user, groups)
 opened_by (entries.Open user groups ∷ es) (suc s) = opened_by es s
 opened_by (entries.Said d ∷ es) s = opened_by es s
 
+-- the entry opens a session
 abbrev pub is_open : Entry → Bool
 is_open (entries.Open user groups) = true
 is_open (entries.Said d) = false
@@ -28,6 +29,7 @@ is_open (entries.Said d) = false
 abbrev pub opens : List Entry → ℕ
 opens J = count_by is_open J
 
+-- the entry is of a statement of the session
 abbrev pub is_said_by : ℕ → Entry → Bool
 is_said_by s (entries.Open user groups) = false
 is_said_by s (entries.Said d) = d.session == s
@@ -52,6 +54,7 @@ abbrev pub Follows : List Entry → Entry → Type 0
 Follows J (entries.Open user groups) = Unit {0}
 Follows J (entries.Said d) = FollowsSaid J d
 
+-- each entry may stand after these and those before it
 abbrev pub MadeFrom : List Entry → List Entry → Type 0
 MadeFrom J [] = Unit {0}
 MadeFrom J (e ∷ es) = Follows J e × MadeFrom (J ++ e ∷ []) es

@@ -26,6 +26,7 @@ HasOneReply = TextsAreTold → (J : List Entry) (k : ℕ) (r q : Reply) → Rep 
 
 -- ---- stamps
 
+-- the key of a user
 abbrev pub is_user_key : Key → Bool
 is_user_key (keys.User n) = true
 is_user_key (keys.Table n) = false
@@ -37,11 +38,15 @@ is_user_key (keys.Component n) = false
 abbrev pub SameAt : Key → State → State → Type 0
 SameAt k S T = SameRecord S.cat T.cat k × SameRows S.tables T.tables k
 
--- A stamp is 0 exactly where nothing is there, but for users: the first one is there from the beginning.
+-- where nothing is there under a key, its stamp is 0
+abbrev pub AbsentIsZero : Type 0
+AbsentIsZero = (J : List Entry) (S : State) (k : Key) → Replay J S → is_there S.cat S.tables k ≡ false → S.stamp k ≡ 0
+
+-- where something is there, it is above 0, but for users: the first one is there from the beginning
 abbrev pub StampsTell : Type 0
 StampsTell = (J : List Entry) (S : State) (k : Key) → Replay J S → is_user_key k ≡ false → is_there S.cat S.tables k ≡ true → 0 < S.stamp k
 
--- Where a key has the same stamp after some more entries, it has the same record and the same rows.
+-- Where a key, but that of a user, has the same stamp after some more entries, it has the same record and the same rows.
 abbrev pub SameStampSameRecord : Type 0
 SameStampSameRecord =
     (J K : List Entry) (S T : State) (k : Key) → Replay J S → Runs (length J) S K T → is_user_key k ≡ false → T.stamp k ≡ S.stamp k → SameAt k S T

@@ -11,6 +11,7 @@ open_place at (entries.Open user groups ∷ es) zero k = at
 open_place at (entries.Open user groups ∷ es) (suc s) k = open_place (at + 1) es s k
 open_place at (entries.Said d ∷ es) s k = open_place (at + 1) es s k
 
+-- the root of an entry at this place, after these entries
 abbrev pub root_at : List Entry → ℕ → Option Entry → ℕ
 root_at before k (Some (entries.Said d)) = open_place 0 before d.session k
 root_at before k _ = k

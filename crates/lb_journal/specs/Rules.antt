@@ -30,9 +30,11 @@ kind_of_type (types.Text width) = text
 kind_of_type types.Date = date
 kind_of_type (types.Label policy) = label policy
 
+-- a column as names and types see it
 abbrev pub field_of : ColumnRec → Field
 field_of c = record { name = c.name; kind = kind_of_type c.ty }
 
+-- the columns of a table
 abbrev pub fields_of : Table → List Field
 fields_of t = map field_of t.columns
 
@@ -52,9 +54,11 @@ named_by tables policies = record {
   label_fault = λ n t. option_and_then (λ p. fault_in p t) (find (is_policy n) policies);
 }
 
+-- those of a catalogue
 abbrev pub named_in : Cat → Catalogue
 named_in C = named_by C.tables C.policies
 
+-- the refusal by a name or a type, as a reply tells it
 abbrev pub refusal_for : Refused → Refusal
 refusal_for (refused.Unknown n) = refusals.Unknown n
 refusal_for (refused.Exists n) = refusals.Exists n

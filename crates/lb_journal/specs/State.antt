@@ -42,6 +42,7 @@ abbrev pub outcome : Cat → Tables → List ℕ → List (List ℕ) → ℤ →
 outcome C T user groups day (stmts.Change c) = changed C T user c
 outcome C T user groups day s = answered C T (answered_to C (cred C user groups) T day s)
 
+-- the same in a state
 abbrev pub step : State → List ℕ → List (List ℕ) → ℤ → Stmt → Changed
 step S user groups day s = outcome S.cat S.tables user groups day s
 

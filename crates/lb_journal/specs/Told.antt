@@ -1,5 +1,5 @@
 -- What a session is told: one answer for each of its statements, each right by the journal.
-use Rattle.std.specs.Prelude.{ℕ, ℤ, ◌≡◌, ◌⊎◌, Bool, true, false, List, [], ◌∷◌, take, length, slice_get, Option, None, Some}
+use Rattle.std.specs.Prelude.{ℕ, ℤ, ◌≡◌, ◌⊎◌, ◌+◌, ◌≤◌, Bool, true, false, List, [], ◌∷◌, take, length, slice_get, Option, None, Some}
 use Rattle.lb_stmt.specs.declared.write.Stmt.{Stmt}
 use Rattle.lb_stmt.specs.declared.write.Stmt.TheVariants as stmts
 use Rattle.lb_tok.specs.Canonical.{canonical}
@@ -17,10 +17,12 @@ use Rattle.lb_journal.specs.Journal.{Placed}
 use Rattle.lb_journal.specs.State.{State}
 use Rattle.lb_journal.specs.Replay.{Replay, Rep}
 
+-- SELECT
 abbrev pub is_query : Stmt → Bool
 is_query (stmts.Select s) = true
 is_query s = false
 
+-- a statement that changes the catalogue
 abbrev pub is_change : Stmt → Bool
 is_change (stmts.Change c) = true
 is_change s = false
@@ -56,28 +58,49 @@ module _ (built : Cat → Stmt → Bool) (J : List Entry) (limit : ℕ) where
   abbrev pub IsUnread : Asked → Answer → Type 0
   IsUnread asked a = (byte : ℕ) × (a.reply ≡ replies.Refused (refusals.Syntax byte)) × IsSyntaxAt asked.text byte
 
-  -- the statement can be read, and cannot be run in the catalogue that some of the entries leave
-  abbrev pub IsNotYet : Asked → Answer → Type 0
-  IsNotYet asked a = (a.reply ≡ replies.Refused refusals.NotYet) × ((s : Stmt) × IsRepeatable asked.text s × ((k : ℕ) × (S : State) × Replay (take k J) S × (built S.cat s ≡ false)))
+  -- no place of the session lies between
+  abbrev pub IsBefore : ℕ → List Placed → Type 0
+  IsBefore k [] = k ≤ length J
+  IsBefore k (e ∷ next) = k ≤ e.place
 
-  -- the statement can be read, the journal has as many entries as it may have, and none of the session's entries is still to come
-  abbrev pub IsFull : List Placed → Asked → Answer → Type 0
-  IsFull next asked a = (a.reply ≡ replies.Refused (refusals.JournalFull limit)) × (length J ≡ limit) × (next ≡ []) × ((s : Stmt) × IsRepeatable asked.text s)
+  -- The statement can be read, and could not be run in the catalogue that some first entries leave, which are those before it: at least all up to
+  -- the session's last entry, and none from its next one on.
+  pub record IsNotYet (from : ℕ) (next : List Placed) (asked : Asked) (a : Answer) : Type 0 where
+    pub reply : a.reply ≡ replies.Refused refusals.NotYet
+    pub stmt : Stmt
+    pub reads : IsRepeatable asked.text stmt
+    pub entries : ℕ
+    pub later : from ≤ entries
+    pub earlier : IsBefore entries next
+    pub state : State
+    pub before : Replay (take entries J) state
+    pub unbuilt : built state.cat stmt ≡ false
 
-  -- Why a statement was not run, where these entries of the session are still to come: it is out of memory, or one of the three.
-  abbrev pub HasCause : List Placed → Asked → Answer → Type 0
-  HasCause next asked a = (a.reply ≡ replies.NoMemory) ⊎ IsUnread asked a ⊎ IsNotYet asked a ⊎ IsFull next asked a
+  -- the statement can be read and run, the journal has as many entries as it may have, and none of the session's entries is still to come
+  pub record IsFull (next : List Placed) (asked : Asked) (a : Answer) : Type 0 where
+    pub reply : a.reply ≡ replies.Refused (refusals.JournalFull limit)
+    pub many : length J ≡ limit
+    pub last : next ≡ []
+    pub stmt : Stmt
+    pub reads : IsRepeatable asked.text stmt
+    pub state : State
+    pub whole : Replay J state
+    pub runs : built state.cat stmt ≡ true
+
+  -- Why a statement was not run, after the first entries and before these of the session: it is out of memory, or one of the three.
+  abbrev pub HasCause : ℕ → List Placed → Asked → Answer → Type 0
+  HasCause from next asked a = (a.reply ≡ replies.NoMemory) ⊎ IsUnread asked a ⊎ IsNotYet from next asked a ⊎ IsFull next asked a
 
   -- the statement was not run: its answer shows no place and no mark
-  pub record IsNotRun (next : List Placed) (asked : Asked) (a : Answer) : Type 0 where
+  pub record IsNotRun (from : ℕ) (next : List Placed) (asked : Asked) (a : Answer) : Type 0 where
     pub place : a.place ≡ None
     pub mark : a.mark ≡ marks.Dash
-    pub cause : HasCause next asked a
+    pub cause : HasCause from next asked a
 
-  -- The answers to these statements, where these entries of the session are still to come. Each statement was run, and then the next entry is
-  -- its, or was not run; in the end no entry is left.
-  abbrev pub Told : List Placed → List Asked → List Answer → Type 0
-  Told next [] [] = next ≡ []
-  Told [] (q ∷ qs) (a ∷ answers) = IsNotRun [] q a × Told [] qs answers
-  Told (e ∷ next) (q ∷ qs) (a ∷ answers) = (IsNotRun (e ∷ next) q a × Told (e ∷ next) qs answers) ⊎ (IsRun q e a × Told next qs answers)
-  Told next _ _ = ⊥
+  -- The answers to these statements, where so many entries stand up to the session's last one, and these of the session are still to come. Each
+  -- statement was run, and then the next entry is its, or was not run; in the end no entry is left.
+  abbrev pub Told : ℕ → List Placed → List Asked → List Answer → Type 0
+  Told from next [] [] = next ≡ []
+  Told from [] (q ∷ qs) (a ∷ answers) = IsNotRun from [] q a × Told from [] qs answers
+  Told from (e ∷ next) (q ∷ qs) (a ∷ answers) = (IsNotRun from (e ∷ next) q a × Told from (e ∷ next) qs answers) ⊎ (IsRun q e a × Told (e.place + 1) next qs answers)
+  Told from next _ _ = ⊥

@@ -10,7 +10,7 @@ ghost use Rattle.lb_journal.specs.Replay.{Replay, Rep};
 ghost use Rattle.lb_journal.specs.Roots.{root};
 ghost use Rattle.lb_journal.specs.Engine.{RightGives};
 ghost use Rattle.lb_journal.specs.Lasting.{AnswerStays, RightLasts};
-ghost use Rattle.lb_journal.specs.Laws.{HasOneReplay, HasOneReply, SameStampSameRecord, StampsTell};
+ghost use Rattle.lb_journal.specs.Laws.{AbsentIsZero, HasOneReplay, HasOneReply, SameStampSameRecord, StampsTell};
 
 use crate::engine::Engine;
 
@@ -36,8 +36,10 @@ pub fn root_stays()
     ensures stays { (J K : List Entry) (k : ℕ) → k < length J → root (J ++ K) k ≡ root J k }
 {}
 
-/// What is there has a stamp above 0, but for users; and where a key's stamp is what it was, so are its record and its rows.
+/// What isn't there has the stamp 0. But for users, what is there has a stamp above 0; and where a key's stamp is what it was, so
+/// are its record and its rows.
 pub fn stamps_tell()
+    ensures absent { AbsentIsZero }
     ensures there { StampsTell }
     ensures same { SameStampSameRecord }
 {}
