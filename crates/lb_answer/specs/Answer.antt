@@ -1,8 +1,6 @@
 -- What a query or a write is answered, and the rows that a write leaves.
-use Rattle.std.specs.Prelude.{ℕ, List, [], ◌∷◌, map, filter_map, Option, Some, None, Ok, Err, ℤ}
+use Rattle.std.specs.Prelude.{ℕ, List, map, filter_map, Option, Some, None, Ok, Err, ℤ}
 use Rattle.std.specs.List.{position_from}
-use Rattle.lb_base.specs.declared.value.Value.{Value}
-use Rattle.lb_base.specs.Evaluated.{Evaluated}
 use Rattle.lb_stmt.specs.declared.write.Delete.{Delete}
 use Rattle.lb_stmt.specs.declared.write.Insert.{Insert}
 use Rattle.lb_stmt.specs.declared.write.InsertSource.{InsertSource}

@@ -1,7 +1,7 @@
 -- What the definitions of writes come to, in the words of lists, and what answers don't depend on.
-use Rattle.std.specs.Prelude.{ℕ, ◌≡◌, Bool, true, false, if◌then◌else◌, List, [], ◌∷◌, ◌++◌, map, length, Option, Some, None, ℤ, Ok, Err}
+use Rattle.std.specs.Prelude.{ℕ, ◌≡◌, Bool, true, false, if◌then◌else◌, List, [], ◌∷◌, ◌++◌, map, length, Option, Some, None, ℤ, Ok}
 use Rattle.lb_base.specs.declared.value.Value.{Value}
-use Rattle.lb_base.specs.Evaluated.{Evaluated, ◌>>=◌, passing}
+use Rattle.lb_base.specs.Evaluated.{◌>>=◌, passing}
 use Rattle.lb_stmt.specs.declared.write.Stmt.{Stmt}
 use Rattle.lb_cat.specs.declared.cred.Cred.{Cred}
 use Rattle.lb_cat.specs.declared.reply.Reply.{Reply}
@@ -12,7 +12,7 @@ use Rattle.lb_rows.specs.Tables.{Tables, Version}
 use Rattle.lb_mean.specs.Answer.{Checks}
 use Rattle.lb_mean.specs.Frame.{Agrees}
 use Rattle.lb_mean.specs.Laws.{SameMention}
-use Rattle.lb_answer.specs.Answer.{Answered, answer}
+use Rattle.lb_answer.specs.Answer.{answer}
 use Rattle.lb_answer.specs.Basis.{Basis}
 use Rattle.lb_answer.specs.Candidates.{Marked, candidates, taken_rows, other_rows}
 use Rattle.lb_answer.specs.Checks.{new_row, row_fits}
