@@ -48,6 +48,7 @@ pub record Stay (marks : List Marked) (news : List (List Value)) : Type 0 where
   pub many : length news ≡ length marks
   pub others : beside marks news ≡ other_rows marks
 
+-- so it is for the new rows of each UPDATE
 abbrev pub OthersStay : Option Policy → Basis (List Value) → Table → List ℕ → List Marked → List (List Value) → Type 0
 OthersStay p b t places marks news = all_made (map (renewed p b t places) marks) ≡ Ok news → Stay marks news
 
@@ -60,6 +61,7 @@ abbrev pub is_write : Reply → Bool
 is_write (replies.Wrote verb n) = true
 is_write _ = false
 
+-- rows are left in a table
 abbrev pub has_version : Option Version → Bool
 has_version None = false
 has_version (Some v) = true
