@@ -1,10 +1,10 @@
 -- The candidates are the kept rows of the visible ones.
 use Rattle.std.proofs.Common.{◌≡◌, refl, ap, ◌∙◌, sym, Bool, true, false, cond, List, [], ◌∷◌, map, Ok, Err}
-use Rattle.std.specs.Prelude.{if◌then◌else◌, filter}
+use Rattle.std.specs.Prelude.{if◌then◌else◌}
 use Rattle.lb_base.specs.declared.value.Value.{Value}
 use Rattle.lb_base.specs.Evaluated.{Evaluated, ◌>>=◌, each, passing}
 use Rattle.lb_answer.specs.Basis.{Basis}
-use Rattle.lb_answer.specs.Candidates.{Marked, mark, mark_again, candidates, taken_rows}
+use Rattle.lb_answer.specs.Candidates.{Marked, mark, mark_again, taken_rows}
 use Rattle.lb_answer.specs.Laws.{AreKept, AreRows}
 
 abbrev Row : Type 0

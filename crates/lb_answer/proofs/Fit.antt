@@ -1,5 +1,5 @@
 -- The rows that a write makes pass the check of widths and nulls, and the rows that it doesn't take stay.
-use Rattle.std.proofs.Common.{arith, ◌≡◌, refl, ap, sym, ◌∙◌, subst, ℕ, zero, suc, ◌+◌, Bool, true, false, not, cond, List, [], ◌∷◌, map, length, slice_set, Option, Some, None, Ok, Err}
+use Rattle.std.proofs.Common.{arith, ◌≡◌, refl, ap, sym, ◌∙◌, subst, ℕ, zero, suc, ◌+◌, Bool, true, false, not, cond, List, [], ◌∷◌, map, slice_set, Option, Some, None, Ok, Err}
 use Rattle.std.specs.Prelude.{filter}
 use Rattle.std.specs.List.{position_from}
 use Rattle.lb_base.specs.declared.key.Ty.{Ty}
@@ -9,9 +9,8 @@ use Rattle.lb_cat.specs.declared.catalog.ColumnRec.{ColumnRec}
 use Rattle.lb_cat.specs.Catalog.{Table, Policy}
 use Rattle.lb_answer.specs.OrRefused.{OrRefused, ◌>>=◌, all_made}
 use Rattle.lb_answer.specs.Basis.{Basis}
-use Rattle.lb_answer.specs.Candidates.{Marked, other_rows}
+use Rattle.lb_answer.specs.Candidates.{Marked}
 use Rattle.lb_answer.specs.Checks.{values_fit, value_fits, row_fits, is_label_type, label_place, label_at, new_row, made, old_writable, labelled, labelled_at, stored_label, masks_show_own, is_allowed}
-use Rattle.lb_answer.specs.Writes.{renewed}
 use Rattle.lb_answer.specs.Laws.{Fits, Stay, OthersStay, beside}
 
 abbrev Row : Type 0

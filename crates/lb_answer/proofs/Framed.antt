@@ -1,45 +1,38 @@
 -- What a statement is answered depends on what it mentions.
-use Rattle.std.proofs.Common.{ℕ, ℤ, ◌≡◌, refl, ap, List, [], ◌∷◌, ◌++◌, Bool, true, false, Option, Some, None, map, Ok, Err}
+use Rattle.std.proofs.Common.{ℕ, ℤ, ◌≡◌, refl, List, [], ◌∷◌, ◌++◌, false, Option, Some, None, map, Ok}
 use Rattle.std.specs.Prelude.{option_map}
 use Rattle.std.specs.List.{flat_map}
 use Rattle.lb_base.specs.declared.value.Value.{Value}
-use Rattle.lb_base.specs.Evaluated.{Evaluated}
 use Rattle.lb_tree.specs.declared.query.Cond.{Cond}
 use Rattle.lb_tree.specs.declared.query.Expr.{Expr}
-use Rattle.lb_tree.specs.declared.query.Tab.{Tab}
-use Rattle.lb_tree.specs.declared.query.Select.{Select}
 use Rattle.lb_stmt.specs.declared.write.Assignment.{Assignment}
 use Rattle.lb_stmt.specs.declared.write.Delete.{Delete}
 use Rattle.lb_stmt.specs.declared.write.Insert.{Insert}
 use Rattle.lb_stmt.specs.declared.write.InsertSource.{InsertSource}
 use Rattle.lb_stmt.specs.declared.write.InsertSource.TheVariants as sources
-use Rattle.lb_stmt.specs.declared.write.Stmt.{Stmt}
 use Rattle.lb_stmt.specs.declared.write.Stmt.TheVariants as stmts
 use Rattle.lb_stmt.specs.declared.write.Update.{Update}
 use Rattle.lb_cat.specs.declared.cred.Cred.{Cred}
 use Rattle.lb_cat.specs.declared.reply.Verb.TheVariants as verbs
 use Rattle.lb_cat.specs.Catalog.{Cat, Table, Policy, table_named}
-use Rattle.lb_names.specs.Mentions.{Mention, Mentions, table, in_expr, in_cond, in_query, in_select, in_assignment, in_where, in_source, in_stmt}
-use Rattle.lb_rows.specs.Tables.{Tables, rows_of}
-use Rattle.lb_mean.specs.Setting.{Setting, Source, Frame, row_frame}
+use Rattle.lb_names.specs.Mentions.{Mentions, table, in_expr, in_cond, in_query, in_select, in_assignment, in_where, in_source}
+use Rattle.lb_rows.specs.Tables.{Tables}
+use Rattle.lb_mean.specs.Setting.{Setting, row_frame}
 use Rattle.lb_mean.specs.Conditions.{outputs}
 use Rattle.lb_mean.specs.Expressions.{all_values}
 use Rattle.lb_mean.specs.Joined.{correlation_of, piece}
-use Rattle.lb_mean.specs.Meant.{Says}
 use Rattle.lb_mean.specs.Queries.{where_true}
-use Rattle.lb_mean.specs.Meaning.{says, means, answers}
+use Rattle.lb_mean.specs.Meaning.{says, means}
 use Rattle.lb_mean.specs.Visible.{is_visible, is_permitted}
 use Rattle.lb_mean.specs.Uses.{uses_in, uses_in_query, from_item}
 use Rattle.lb_mean.specs.Refused.{columns_of, shown_by_name, policy_of_table}
-use Rattle.lb_mean.specs.Answer.{Checks}
 use Rattle.lb_mean.specs.Frame.{Agrees, SameIn}
 use Rattle.lb_mean.specs.Laws.{SameMention, SameRecord, SameStored, mention_of, mentioned_by_columns, mentioned_by_permissions, mentioned_by_masks}
 use Rattle.lb_mean.proofs.Agreeing.{first, second, weaker}
 use Rattle.lb_mean.proofs.Meant.{expr_of_session, cond_of_session}
 use Rattle.lb_mean.proofs.Seen.{G, H, W, V, Same, mention_same, visible_same, allowed_same, query_same, from_keys, chosen_same, answer_frame}
 use Rattle.lb_answer.specs.OrRefused.{OrRefused}
-use Rattle.lb_answer.specs.Answer.{Answered, answer, done, unless_refused, with_target, places_given, places_of, insert_into, update_in, delete_from}
-use Rattle.lb_answer.specs.Basis.{Basis}
+use Rattle.lb_answer.specs.Answer.{done, unless_refused, with_target, places_given, places_of, insert_into, update_in, delete_from}
 use Rattle.lb_answer.specs.Bases.{label_failure, label_held, masked_among, masked_in_query, values_basis}
 use Rattle.lb_answer.specs.Before.{insert_refused, update_refused, delete_refused}
 use Rattle.lb_answer.specs.Checks.{new_row}

@@ -1,19 +1,16 @@
 -- Rows are left exactly by writes.
-use Rattle.std.proofs.Common.{ℕ, ℤ, ◌≡◌, refl, List, Option, Some, None, Ok, Err}
-use Rattle.lb_stmt.specs.declared.write.Stmt.{Stmt}
+use Rattle.std.proofs.Common.{ℕ, ◌≡◌, refl, List, Option, Some, None, Ok, Err}
 use Rattle.lb_stmt.specs.declared.write.Stmt.TheVariants as stmts
-use Rattle.lb_cat.specs.declared.cred.Cred.{Cred}
 use Rattle.lb_cat.specs.declared.refusal.Refusal.{Refusal}
 use Rattle.lb_cat.specs.declared.reply.Verb.{Verb}
 use Rattle.lb_cat.specs.declared.reply.Verb.TheVariants as verbs
-use Rattle.lb_cat.specs.Catalog.{Cat, Table, table_named}
+use Rattle.lb_cat.specs.Catalog.{Table, table_named}
 use Rattle.lb_base.specs.declared.value.Value.{Value}
 use Rattle.lb_base.specs.Evaluated.{Evaluated}
-use Rattle.lb_rows.specs.Tables.{Tables}
-use Rattle.lb_mean.specs.Answer.{Checks, query_answer, query_refused, reply_with, unless_refused as query_unless}
+use Rattle.lb_mean.specs.Answer.{query_refused, unless_refused as query_unless}
 use Rattle.lb_mean.specs.Output.{rows_told}
 use Rattle.lb_mean.specs.Visible.{guarded}
-use Rattle.lb_answer.specs.Answer.{Answered, answer, done, unless_refused, with_target, insert_into, update_in, delete_from}
+use Rattle.lb_answer.specs.Answer.{Answered, done, unless_refused, with_target, insert_into, update_in, delete_from}
 use Rattle.lb_answer.specs.Before.{insert_refused, update_refused, delete_refused}
 use Rattle.lb_answer.specs.OrRefused.{OrRefused}
 use Rattle.lb_answer.specs.Writes.{Written}

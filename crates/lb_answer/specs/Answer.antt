@@ -1,8 +1,6 @@
 -- What a query or a write is answered, and the rows that a write leaves.
-use Rattle.std.specs.Prelude.{ℕ, List, [], ◌∷◌, map, filter_map, Option, Some, None, Ok, Err, ℤ}
+use Rattle.std.specs.Prelude.{ℕ, List, map, filter_map, Option, Some, None, Ok, Err, ℤ}
 use Rattle.std.specs.List.{position_from}
-use Rattle.lb_base.specs.declared.value.Value.{Value}
-use Rattle.lb_base.specs.Evaluated.{Evaluated}
 use Rattle.lb_stmt.specs.declared.write.Delete.{Delete}
 use Rattle.lb_stmt.specs.declared.write.Insert.{Insert}
 use Rattle.lb_stmt.specs.declared.write.InsertSource.{InsertSource}
@@ -84,14 +82,17 @@ module _ (C : Cat) (c : Cred) (T : Tables) (day : ℤ) where
       deleted (policy_of_table C t) (delete_basis C c (unguarded C c T day) (guarded C c T day) t (policy_of_table C t) d) t
       (rows_of d.target.table T)
 
+  -- what an INSERT is answered
   abbrev pub insert_answer : Checks → Insert → Answered
   insert_answer checks i = unless_refused (insert_refused checks C c i)
       (with_target (table_named C i.table) i.table (λ t. done verbs.Inserted i.table (insert_into i i.source t)))
 
+  -- what an UPDATE is answered
   abbrev pub update_answer : Checks → Update → Answered
   update_answer checks u = unless_refused (update_refused checks C c u)
       (with_target (table_named C u.target.table) u.target.table (λ t. done verbs.Updated u.target.table (update_in u t)))
 
+  -- what a DELETE is answered
   abbrev pub delete_answer : Checks → Delete → Answered
   delete_answer checks d = unless_refused (delete_refused checks C c d)
       (with_target (table_named C d.target.table) d.target.table (λ t. done verbs.Deleted d.target.table (delete_from d t)))

@@ -1,7 +1,7 @@
 -- What each write rests on, over the meaning of expressions and conditions, visible rows, permissions, masks and labels.
-use Rattle.std.specs.Prelude.{ℕ, Bool, false, if◌then◌else◌, List, [], ◌∷◌, map, filter, filter_map, find, Option, Some, None, option_map, Ok}
+use Rattle.std.specs.Prelude.{Bool, false, if◌then◌else◌, List, [], ◌∷◌, map, filter, filter_map, find, Option, Some, None, option_map, Ok}
 use Rattle.std.specs.List.{flat_map}
-use Rattle.std.specs.Option.{option_and_then, option_to_list}
+use Rattle.std.specs.Option.{option_to_list}
 use Rattle.std.specs.Str.{bytes_eq}
 use Rattle.lb_base.specs.declared.value.Value.{Value}
 use Rattle.lb_base.specs.declared.value.Value.TheVariants as values
@@ -16,8 +16,7 @@ use Rattle.lb_stmt.specs.declared.write.Delete.{Delete}
 use Rattle.lb_cat.specs.declared.cred.Cred.{Cred}
 use Rattle.lb_cat.specs.Catalog.{Cat, Table, Policy}
 use Rattle.lb_cat.specs.Credentials.{held_of}
-use Rattle.lb_rows.specs.Tables.{Tables}
-use Rattle.lb_mean.specs.Setting.{Setting, Piece, JoinedRow, Frame, Env, row_frame}
+use Rattle.lb_mean.specs.Setting.{Setting, Piece, JoinedRow, Frame, row_frame}
 use Rattle.lb_mean.specs.Labels.{write_failure}
 use Rattle.lb_mean.specs.Environment.{cell_named}
 use Rattle.lb_mean.specs.Conditions.{outputs}
@@ -26,7 +25,7 @@ use Rattle.lb_mean.specs.Queries.{where_true}
 use Rattle.lb_mean.specs.Expressions.{all_values}
 use Rattle.lb_mean.specs.Meaning.{says, means, answers}
 use Rattle.lb_mean.specs.Visible.{is_visible, is_permitted}
-use Rattle.lb_mean.specs.Named.{FromItem, Named, QueryUses, name_of_item}
+use Rattle.lb_mean.specs.Named.{QueryUses, name_of_item}
 use Rattle.lb_mean.specs.Uses.{uses_in, uses_in_query, from_item}
 use Rattle.lb_mean.specs.Refused.{Shown, MaskedUse, columns_of, masked_use, shown_by, shown_by_name}
 use Rattle.lb_answer.specs.Basis.{Basis, MaskedValue}

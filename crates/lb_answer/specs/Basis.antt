@@ -1,5 +1,5 @@
 -- What a write rests on: which rows the session sees, keeps, may write and may leave, and what its values are.
-use Rattle.std.specs.Prelude.{ℕ, Bool, true, false, if◌then◌else◌, List, [], ◌∷◌, Option, Ok, Err}
+use Rattle.std.specs.Prelude.{ℕ, Bool, if◌then◌else◌, List, Option, Ok, Err}
 use Rattle.lb_base.specs.declared.value.Value.{Value}
 use Rattle.lb_base.specs.declared.value.Value.TheVariants as values
 use Rattle.lb_base.specs.Conditions.{is_null}

@@ -66,6 +66,7 @@ write_refused c (Some p) column = option_and_then (column_unwritable c p column.
 abbrev pub writes_refused_in : Cat → Cred → (ColumnRec → Bool) → Table → Option Refusal
 writes_refused_in C c is_written t = first_some (map (write_refused c (policy_of_table C t)) (filter is_written t.columns))
 
+-- the same of the target, as the catalogue has it
 abbrev pub writes_refused : Cat → Cred → (ColumnRec → Bool) → List ℕ → Option Refusal
 writes_refused C c is_written target = option_and_then (writes_refused_in C c is_written) (table_named C target)
 
@@ -80,16 +81,19 @@ is_set assignments column = is_among (map (λ a. a.column) assignments) column.n
 
 -- ---- the source of an INSERT
 
+-- ColumnRead of the source: VALUES names no columns
 abbrev pub source_reads_refused : Cat → Cred → InsertSource → Option Refusal
 source_reads_refused C c (sources.Rows rows) = None
 source_reads_refused C c (sources.Query s) = columns_refused C c s
 
+-- MaskGroup of the source
 abbrev pub source_masks_refused : Cat → InsertSource → Option Refusal
 source_masks_refused C (sources.Rows rows) = None
 source_masks_refused C (sources.Query s) = masks_refused C s
 
 -- ---- the first refusal before the candidates: names, types, Privilege, ColumnRead, ColumnWrite, MaskGroup
 
+-- of an INSERT
 abbrev pub insert_refused : Checks → Cat → Cred → Insert → Option Refusal
 insert_refused checks C c i = first_some (
     checks C.tables C.policies (stmts.Insert i)
@@ -99,6 +103,7 @@ insert_refused checks C c i = first_some (
     ∷ source_masks_refused C i.source
     ∷ [])
 
+-- of an UPDATE
 abbrev pub update_refused : Checks → Cat → Cred → Update → Option Refusal
 update_refused checks C c u = first_some (
     checks C.tables C.policies (stmts.Update u)
@@ -107,6 +112,7 @@ update_refused checks C c u = first_some (
     ∷ writes_refused C c (is_set u.assignments) u.target.table
     ∷ [])
 
+-- of a DELETE
 abbrev pub delete_refused : Checks → Cat → Cred → Delete → Option Refusal
 delete_refused checks C c d = first_some (
     checks C.tables C.policies (stmts.Delete d)

@@ -1,5 +1,5 @@
 -- Which rows of the target an UPDATE or a DELETE takes.
-use Rattle.std.specs.Prelude.{ℕ, not, Bool, if◌then◌else◌, List, map, filter, length, Ok}
+use Rattle.std.specs.Prelude.{not, Bool, if◌then◌else◌, List, map, filter, Ok}
 use Rattle.lb_base.specs.declared.value.Value.{Value}
 use Rattle.lb_base.specs.Evaluated.{Evaluated, ◌>>=◌, each}
 use Rattle.lb_answer.specs.Basis.{Basis}

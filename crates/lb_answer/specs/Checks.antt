@@ -54,6 +54,7 @@ row_fits t row = values_fit t 0 t.columns row
 
 -- ---- the label column
 
+-- the type of a label column
 abbrev pub is_label_type : Ty → Bool
 is_label_type (types.Label policy) = true
 is_label_type _ = false
@@ -93,6 +94,7 @@ module _ {S : Type 0} (p : Option Policy) (b : Basis S) (t : Table) where
       named None = []
       named (Some p) = component_at p f.component
 
+  -- RowWrite where a component fails
   abbrev pub unless_unwritable : Option Fail → OrRefused Passed
   unless_unwritable None = Ok tt
   unless_unwritable (Some f) = Err (refusals.RowWrite (component_failing f) f.rule)
@@ -131,6 +133,7 @@ module _ {S : Type 0} (p : Option Policy) (b : Basis S) (t : Table) where
   abbrev pub stored_label : Value → OrRefused Value
   stored_label l = if is_null l then own_label b.own_label else given_label l (b.fails l)
 
+  -- the row with the stored label at the label column's place
   abbrev pub labelled_at : Option ℕ → List Value → OrRefused (List Value)
   labelled_at None row = Ok row
   labelled_at (Some place) row = stored_label (label_at place row) >>= λ l. Ok (slice_set row place l)
@@ -151,6 +154,7 @@ module _ {S : Type 0} (p : Option Policy) (b : Basis S) (t : Table) where
   abbrev pub tried : List (List ℕ)
   tried = map (λ r. r.name) (filter (λ r. r.enabled) t.permissions)
 
+  -- RowPermission where no permission is true
   abbrev pub if_permitted : Bool → OrRefused Passed
   if_permitted passes = if passes then Ok tt else Err (refusals.RowPermission t.name tried)
 

@@ -1,7 +1,7 @@
 -- What the definitions of writes come to, in the words of lists, and what answers don't depend on.
-use Rattle.std.specs.Prelude.{ℕ, ◌≡◌, Bool, true, false, if◌then◌else◌, List, [], ◌∷◌, ◌++◌, map, length, Option, Some, None, ℤ, Ok, Err}
+use Rattle.std.specs.Prelude.{ℕ, ◌≡◌, Bool, true, false, if◌then◌else◌, List, [], ◌∷◌, ◌++◌, map, length, Option, Some, None, ℤ, Ok}
 use Rattle.lb_base.specs.declared.value.Value.{Value}
-use Rattle.lb_base.specs.Evaluated.{Evaluated, ◌>>=◌, passing}
+use Rattle.lb_base.specs.Evaluated.{◌>>=◌, passing}
 use Rattle.lb_stmt.specs.declared.write.Stmt.{Stmt}
 use Rattle.lb_cat.specs.declared.cred.Cred.{Cred}
 use Rattle.lb_cat.specs.declared.reply.Reply.{Reply}
@@ -12,7 +12,7 @@ use Rattle.lb_rows.specs.Tables.{Tables, Version}
 use Rattle.lb_mean.specs.Answer.{Checks}
 use Rattle.lb_mean.specs.Frame.{Agrees}
 use Rattle.lb_mean.specs.Laws.{SameMention}
-use Rattle.lb_answer.specs.Answer.{Answered, answer}
+use Rattle.lb_answer.specs.Answer.{answer}
 use Rattle.lb_answer.specs.Basis.{Basis}
 use Rattle.lb_answer.specs.Candidates.{Marked, candidates, taken_rows, other_rows}
 use Rattle.lb_answer.specs.Checks.{new_row, row_fits}
@@ -48,6 +48,7 @@ pub record Stay (marks : List Marked) (news : List (List Value)) : Type 0 where
   pub many : length news ≡ length marks
   pub others : beside marks news ≡ other_rows marks
 
+-- so it is for the new rows of each UPDATE
 abbrev pub OthersStay : Option Policy → Basis (List Value) → Table → List ℕ → List Marked → List (List Value) → Type 0
 OthersStay p b t places marks news = all_made (map (renewed p b t places) marks) ≡ Ok news → Stay marks news
 
@@ -60,6 +61,7 @@ abbrev pub is_write : Reply → Bool
 is_write (replies.Wrote verb n) = true
 is_write _ = false
 
+-- rows are left in a table
 abbrev pub has_version : Option Version → Bool
 has_version None = false
 has_version (Some v) = true

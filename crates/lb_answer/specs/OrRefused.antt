@@ -4,6 +4,7 @@ use Rattle.lb_base.specs.Evaluated.{Evaluated}
 use Rattle.lb_cat.specs.declared.refusal.Refusal.{Refusal}
 use Rattle.lb_mean.specs.Answer.{refusal_for}
 
+-- a result, or a refusal
 abbrev pub OrRefused : Type 0 → Type 0
 OrRefused A = Result A Refusal
 

@@ -1,5 +1,5 @@
 -- The rows that INSERT, UPDATE and DELETE leave in their target, or the refusal.
-use Rattle.std.specs.Prelude.{ℕ, ◌*◌, Bool, nat_lt, if◌then◌else◌, List, ◌++◌, map, length, Option, Some, None, Ok, Err}
+use Rattle.std.specs.Prelude.{ℕ, ◌*◌, nat_lt, if◌then◌else◌, List, ◌++◌, map, length, Option, Some, None, Ok, Err}
 use Rattle.lb_base.specs.declared.value.Value.{Value}
 use Rattle.lb_base.specs.Evaluated.{Evaluated}
 use Rattle.lb_cat.specs.declared.refusal.LimitOf.TheVariants as limits

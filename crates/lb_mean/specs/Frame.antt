@@ -28,8 +28,10 @@ pub record SameSetting (R S : Setting) (ms : Mentions) : Type 0 where
 abbrev pub ExprFrame : Type 0
 ExprFrame = (R S : Setting) (e : Expr) → SameSetting R S (in_expr e) → means R e ≡ means S e
 
+-- the same of a condition
 abbrev pub CondFrame : Type 0
 CondFrame = (R S : Setting) (c : Cond) → SameSetting R S (in_cond c) → says R c ≡ says S c
 
+-- the same of a query
 abbrev pub QueryFrame : Type 0
 QueryFrame = (R S : Setting) (q : Query) → SameSetting R S (in_query q) → answers R q ≡ answers S q

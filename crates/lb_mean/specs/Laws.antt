@@ -27,9 +27,11 @@ mention_of (Some p) = policy p ∷ []
 abbrev pub mentioned_by_columns : List ColumnRec → Mentions
 mentioned_by_columns columns = flat_map (λ c. mention_of (policy_of_type c.ty)) columns
 
+-- what the conditions of row permissions mention
 abbrev pub mentioned_by_permissions : List PermissionRec → Mentions
 mentioned_by_permissions ps = flat_map (λ p. in_cond p.condition) ps
 
+-- what the CASEs of column masks mention
 abbrev pub mentioned_by_masks : List MaskRec → Mentions
 mentioned_by_masks ms = flat_map (λ m. in_expr m.value) ms
 

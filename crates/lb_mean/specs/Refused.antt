@@ -78,6 +78,7 @@ is_used u column = u.everything || is_among u.columns column.name
 abbrev pub use_refused_in : Cat → Cred → Use → Table → Option Refusal
 use_refused_in C c u t = first_some (map (column_refused c (policy_of_table C t)) (filter (is_used u) t.columns))
 
+-- the same of a table of FROM, as the catalogue has it
 abbrev pub use_refused : Cat → Cred → Use → Option Refusal
 use_refused C c u = option_and_then (use_refused_in C c u) (table_named C u.item.tab.table)
 
@@ -171,5 +172,6 @@ masks_refused_in C distinct q = if is_listed q.group || distinct
     then first_refused C (may_choose_by q) (filter_map (masked_use C) (flat_map (shown_by q.from) q.items))
     else None
 
+-- the first mask that refuses a query statement
 abbrev pub masks_refused : Cat → Select → Option Refusal
 masks_refused C s = masks_refused_in C (out-Query s.query).distinct (uses_in_query (columns_of C) s.query)

@@ -1,15 +1,15 @@
 -- The examples of specs/Chained, opened by hand.
-use Rattle.std.proofs.Common.{ℕ, ◌≡◌, refl, ◌∙◌, List, [], ◌∷◌, ◌++◌, Bool, false, true, map, None}
+use Rattle.std.proofs.Common.{ℕ, ◌≡◌, ◌∙◌, List, [], ◌∷◌, ◌++◌, false, true, map, None}
 use Rattle.std.specs.Prelude.{codes}
 use Rattle.lb_tree.specs.declared.query.Comparison.TheVariants as comparisons
 use Rattle.lb_tree.specs.declared.query.Atom.TheVariants as atoms
 use Rattle.lb_tree.specs.declared.query.Cond.TheOpen as layers
 use Rattle.lb_tree.specs.declared.query.Expr.{Expr}
-use Rattle.lb_tree.specs.Folds.{cond_of, expr_of, item_of, join_of, chain_of}
+use Rattle.lb_tree.specs.Folds.{cond_of, expr_of, item_of, join_of}
 use Rattle.lb_cat.specs.declared.catalog.ColumnRec.{ColumnRec}
-use Rattle.lb_mean.specs.Named.{Uses, ItemUses, JoinUses, Joining, QueryUses, no_uses, and_then, plainly}
+use Rattle.lb_mean.specs.Named.{Uses, JoinUses, Joining, QueryUses, and_then, plainly}
 use Rattle.lb_mean.specs.Refused.{columns_of}
-use Rattle.lb_mean.specs.Uses.{using, use_steps, item_uses, join_uses, chain_uses, query_uses, uses_in_query}
+use Rattle.lb_mean.specs.Uses.{using, use_steps, item_uses, join_uses, chain_uses, query_uses}
 use Rattle.lb_worked.specs.Chained.{cat, OtherChain, LaterTable}
 use Rattle.lb_worked.specs.Trees.{bare, col, int, equal, item, tab, from, joined, inner_join}
 use Rattle.lb_worked.proofs.Computing.{u_cond, u_expr, u_item, u_join, u_chain, open_uses_of_query}

@@ -1,5 +1,5 @@
 -- The examples of specs/Edges, computed.
-use Rattle.std.proofs.Common.{◌≡◌, refl}
+use Rattle.std.proofs.Common.{refl}
 use Rattle.lb_worked.specs.Edges.{AtLimit, BeyondLimit, BeforeFirst, BeyondLast, FarBeyond}
 
 pub at_limit : AtLimit

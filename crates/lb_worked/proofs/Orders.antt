@@ -1,5 +1,5 @@
 -- The examples of specs/Orders, computed.
-use Rattle.std.proofs.Common.{◌≡◌, refl}
+use Rattle.std.proofs.Common.{refl}
 use Rattle.lb_base.specs.Arithmetic.{in_64_bits, sum_of, product_of}
 use Rattle.lb_worked.specs.Orders.{OutputsLast, LastFirst, DistinctFirst, KeysBeforeCut, InStops, BetweenStops, CoalesceStops, ScalarEvaluatesAll, ScalarHasOneRow, ExistsHasNoOutputs, LeftJoinNulls}
 use Rattle.lb_worked.proofs.Computing.{computing}

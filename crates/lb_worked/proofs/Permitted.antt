@@ -2,11 +2,10 @@
 use Rattle.std.proofs.Common.{◌≡◌, refl, ◌∙◌, [], ◌∷◌, List, Bool, true, false, pos, Ok, Err}
 use Rattle.std.specs.Prelude.{codes, if◌then◌else◌}
 use Rattle.lb_base.specs.Arithmetic.{in_64_bits, sum_of, product_of}
-use Rattle.lb_base.specs.Evaluated.{Evaluated, ◌>>=◌, passing, any_passing}
+use Rattle.lb_base.specs.Evaluated.{Evaluated, ◌>>=◌}
 use Rattle.lb_base.specs.declared.fault.Fault.TheVariants.{Overflow}
 use Rattle.lb_base.specs.declared.value.Value.{Value}
 use Rattle.lb_cat.specs.declared.catalog.PermissionRec.{PermissionRec}
-use Rattle.lb_cat.specs.Catalog.{Table}
 use Rattle.lb_cat.specs.Credentials.{cred}
 use Rattle.lb_names.specs.Mentions.{in_query, in_expr, in_cond}
 use Rattle.lb_mean.specs.Meaning.{answers, means, says}

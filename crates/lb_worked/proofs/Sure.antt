@@ -1,5 +1,5 @@
 -- The examples of specs/Sure, computed.
-use Rattle.std.proofs.Common.{◌≡◌, refl}
+use Rattle.std.proofs.Common.{refl}
 use Rattle.lb_base.specs.Arithmetic.{in_64_bits, sum_of, product_of}
 use Rattle.lb_worked.specs.Sure.{SurePartFirst, StopsAtUnknown, UnderNot, NotSure, InCase}
 use Rattle.lb_worked.proofs.Computing.{computing}

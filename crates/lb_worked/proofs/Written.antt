@@ -1,5 +1,5 @@
 -- The examples of specs/Written, computed.
-use Rattle.std.proofs.Common.{◌≡◌, refl}
+use Rattle.std.proofs.Common.{refl}
 use Rattle.lb_base.specs.Arithmetic.{in_64_bits, sum_of, product_of}
 use Rattle.lb_worked.specs.Written.{DoubledKey, KeysAfterRows, KeysOfNewRows, KeepsPlaces, LeavesOthers, GoLast, RowByRow, NoPermission, MaskedSource, OwnValues}
 use Rattle.lb_worked.proofs.Computing.{computing}

@@ -1,5 +1,5 @@
 -- A (X), B (Y) and C (X, Z): which table a bare column of ON belongs to.
-use Rattle.std.specs.Prelude.{ℕ, ◌≡◌, List, [], ◌∷◌, map, Some, None, codes}
+use Rattle.std.specs.Prelude.{ℕ, ◌≡◌, List, [], ◌∷◌, map, None, codes}
 use Rattle.lb_base.specs.declared.key.Ty.TheVariants as types
 use Rattle.lb_tree.specs.declared.query.Chain.{Chain}
 use Rattle.lb_cat.specs.Catalog.{Cat}

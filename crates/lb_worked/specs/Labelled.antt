@@ -2,7 +2,6 @@
 use Rattle.std.specs.Prelude.{ℕ, ◌≡◌, true, List, [], ◌∷◌, Some, None, codes}
 use Rattle.lb_base.specs.declared.rule.Rule.TheVariants as rules
 use Rattle.lb_tree.specs.declared.query.Atom.TheVariants as atoms
-use Rattle.lb_tree.specs.declared.query.Cond.{Cond}
 use Rattle.lb_tree.specs.declared.query.Expr.{Expr}
 use Rattle.lb_stmt.specs.declared.write.Stmt.TheVariants as stmts
 use Rattle.lb_cat.specs.declared.refusal.Refusal.TheVariants as refusals

@@ -1,8 +1,6 @@
 -- EMP (NAME, SAL, BAND, D) with a mask M2 on NAME, which shows names of band 1 alone, and ONE (A): column masks.
-use Rattle.std.specs.Prelude.{ℕ, ◌≡◌, List, [], ◌∷◌, Some, None, codes, Ok}
+use Rattle.std.specs.Prelude.{◌≡◌, [], ◌∷◌, Some, None, codes, Ok}
 use Rattle.lb_base.specs.declared.key.Ty.TheVariants as types
-use Rattle.lb_base.specs.declared.value.Value.{Value}
-use Rattle.lb_base.specs.declared.value.Value.TheVariants as values
 use Rattle.lb_tree.specs.declared.query.Aggregate.TheVariants as aggregates
 use Rattle.lb_tree.specs.declared.query.Expr.{Expr}
 use Rattle.lb_tree.specs.declared.query.Select.{Select}
@@ -13,7 +11,7 @@ use Rattle.lb_cat.specs.declared.reply.Reply.{Reply}
 use Rattle.lb_cat.specs.declared.reply.Reply.TheVariants as replies
 use Rattle.lb_cat.specs.Catalog.{Cat, Table}
 use Rattle.lb_rows.specs.Tables.{Tables}
-use Rattle.lb_worked.specs.Trees.{bare, qualified, of, col, int, text, case, aggregate, count_rows, equal, item, tab, named, from, joined, left_join, select, select_distinct, select_groups, asked, up, down, ordered}
+use Rattle.lb_worked.specs.Trees.{qualified, of, col, int, text, case, aggregate, count_rows, equal, item, tab, named, from, joined, left_join, select, select_distinct, select_groups, asked, down, ordered}
 use Rattle.lb_worked.specs.Tables.{column, plain, masked_by, mask, holding, number, word, with_tables, answered, given_rows}
 
 abbrev pub emp : Table

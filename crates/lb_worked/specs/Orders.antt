@@ -1,5 +1,5 @@
 -- R (A BIGINT, X BIGINT) with the rows 1, 1 and 2, 9223372036854775807: the order of work, and what stays unevaluated.
-use Rattle.std.specs.Prelude.{ℕ, ◌≡◌, List, [], ◌∷◌, Some, None, codes, Ok, Err}
+use Rattle.std.specs.Prelude.{◌≡◌, List, [], ◌∷◌, Some, None, codes, Ok, Err}
 use Rattle.lb_base.specs.declared.key.Ty.TheVariants as types
 use Rattle.lb_base.specs.Evaluated.{Evaluated}
 use Rattle.lb_base.specs.declared.fault.Fault.TheVariants.{Overflow, ManyRows}
@@ -15,7 +15,7 @@ use Rattle.lb_cat.specs.declared.reply.Reply.{Reply}
 use Rattle.lb_cat.specs.declared.reply.Reply.TheVariants as replies
 use Rattle.lb_cat.specs.Catalog.{Table}
 use Rattle.lb_rows.specs.Tables.{Tables}
-use Rattle.lb_worked.specs.Trees.{col, of, int, plus, coalesce, equal, in_list, between, exists, equal_query, item, tab, named, from, joined, left_join, select, select_distinct, asked, up, down, ordered, first_of}
+use Rattle.lb_worked.specs.Trees.{col, of, int, plus, coalesce, equal, in_list, between, exists, equal_query, item, tab, named, from, joined, left_join, select, select_distinct, asked, up, down, first_of}
 use Rattle.lb_worked.specs.Tables.{column, plain, holding, number, greatest, with_tables, answered, given_rows}
 
 abbrev pub r : Table

@@ -1,5 +1,5 @@
 -- R (A BIGINT, X BIGINT) with the rows 1, 1 and 2, 9223372036854775807, and O (B BIGINT) without rows: row permissions.
-use Rattle.std.specs.Prelude.{ℕ, ◌≡◌, false, List, [], ◌∷◌, Some, None, codes, pos, Ok, Err, if◌then◌else◌}
+use Rattle.std.specs.Prelude.{◌≡◌, false, List, [], ◌∷◌, None, codes, pos, Ok, Err, if◌then◌else◌}
 use Rattle.lb_base.specs.declared.key.Ty.TheVariants as types
 use Rattle.lb_base.specs.Evaluated.{Evaluated}
 use Rattle.lb_base.specs.declared.fault.Fault.TheVariants.{Overflow}
@@ -8,7 +8,6 @@ use Rattle.lb_tree.specs.declared.query.Expr.{Expr}
 use Rattle.lb_tree.specs.declared.query.Query.{Query}
 use Rattle.lb_stmt.specs.declared.write.Stmt.TheVariants as stmts
 use Rattle.lb_cat.specs.declared.catalog.PermissionRec.{PermissionRec}
-use Rattle.lb_cat.specs.declared.refusal.Refusal.TheVariants as refusals
 use Rattle.lb_cat.specs.declared.reply.Reply.{Reply}
 use Rattle.lb_cat.specs.declared.reply.Reply.TheVariants as replies
 use Rattle.std.specs.Str.{bytes_eq}

@@ -1,9 +1,8 @@
 -- A policy P over an ARRAY, a SET and a TREE, users who hold labels and exemptions of it, and a table T with a label column.
-use Rattle.std.specs.Prelude.{ℕ, Bool, false, true, List, [], ◌∷◌, Option, Some, None, codes}
+use Rattle.std.specs.Prelude.{ℕ, Bool, true, List, [], ◌∷◌, Some, None, codes}
 use Rattle.lb_base.specs.declared.key.Ty.TheVariants as types
 use Rattle.lb_base.specs.declared.value.Value.{Value}
 use Rattle.lb_base.specs.declared.value.Value.TheVariants as values
-use Rattle.lb_label.specs.declared.exemption.Exempt.{Exempt}
 use Rattle.lb_label.specs.declared.kind.ComponentKind.TheVariants as kinds
 use Rattle.lb_label.specs.Component.{Definition}
 use Rattle.lb_label.specs.Exemption.{no_exemption}

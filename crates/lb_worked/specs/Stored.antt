@@ -1,5 +1,5 @@
 -- Writes to the table T of specs/Policy: which rows may be written, and which label is stored.
-use Rattle.std.specs.Prelude.{ℕ, ◌≡◌, Bool, true, false, List, [], ◌∷◌, ◌++◌, Some, None, codes}
+use Rattle.std.specs.Prelude.{ℕ, ◌≡◌, Bool, true, false, List, [], ◌∷◌, ◌++◌, Some, codes}
 use Rattle.lb_base.specs.declared.rule.Rule.TheVariants as rules
 use Rattle.lb_base.specs.declared.value.Value.{Value}
 use Rattle.lb_tree.specs.declared.query.Atom.TheVariants as atoms
@@ -11,7 +11,7 @@ use Rattle.lb_answer.specs.Answer.{Answered}
 use Rattle.lb_worked.specs.Changes.{insert, insert_into, update, wrote, refused}
 use Rattle.lb_worked.specs.Policy.{cat, t, e, single, row, label}
 use Rattle.lb_worked.specs.Trees.{atom, col, int, text, equal, in_list}
-use Rattle.lb_worked.specs.Tables.{holding, number, word, answered}
+use Rattle.lb_worked.specs.Tables.{holding, number, answered}
 
 -- MID:HR:FR and LOW:():(), which ANN can read, and TOP:HR:FR, which she can't
 abbrev pub one : List Value

@@ -1,5 +1,5 @@
 -- Q (A BIGINT, X BIGINT) with the row NULL, 9223372036854775807: which parts of a condition are evaluated.
-use Rattle.std.specs.Prelude.{ℕ, ◌≡◌, List, [], ◌∷◌, Some, None, codes}
+use Rattle.std.specs.Prelude.{◌≡◌, [], ◌∷◌, Some, None, codes}
 use Rattle.lb_base.specs.declared.key.Ty.TheVariants as types
 use Rattle.lb_base.specs.declared.value.Value.TheVariants as values
 use Rattle.lb_tree.specs.declared.query.Cond.{Cond}

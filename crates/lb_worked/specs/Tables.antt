@@ -1,7 +1,6 @@
 -- Short words for small catalogues, tables and sessions.
-use Rattle.std.specs.Prelude.{ℕ, Bool, false, true, List, [], ◌∷◌, Option, Some, None, pos, codes, ℤ}
+use Rattle.std.specs.Prelude.{ℕ, false, true, List, [], None, pos, codes}
 use Rattle.lb_base.specs.declared.key.Ty.{Ty}
-use Rattle.lb_base.specs.declared.key.Ty.TheVariants as types
 use Rattle.lb_base.specs.Evaluated.{Evaluated}
 use Rattle.lb_base.specs.declared.value.Value.{Value}
 use Rattle.lb_base.specs.declared.value.Value.TheVariants as values
@@ -13,8 +12,6 @@ use Rattle.lb_cat.specs.declared.catalog.ColumnRec.{ColumnRec}
 use Rattle.lb_cat.specs.declared.catalog.MaskRec.{MaskRec}
 use Rattle.lb_cat.specs.declared.catalog.PermissionRec.{PermissionRec}
 use Rattle.lb_cat.specs.declared.catalog.Privileges.{Privileges}
-use Rattle.lb_cat.specs.declared.cred.Cred.{Cred}
-use Rattle.lb_cat.specs.declared.reply.Reply.{Reply}
 use Rattle.lb_cat.specs.Catalog.{Cat, Table, first_cat}
 use Rattle.lb_cat.specs.Credentials.{cred}
 use Rattle.lb_rows.specs.Tables.{Tables, Version}

@@ -1,12 +1,11 @@
 -- Short words for the trees of queries.
-use Rattle.std.specs.Prelude.{ℕ, Bool, false, true, List, [], ◌∷◌, map, Option, Some, None, pos, ℤ}
+use Rattle.std.specs.Prelude.{ℕ, false, true, List, [], ◌∷◌, Option, Some, None, pos}
 use Rattle.lb_tree.specs.declared.query.Aggregate.{Aggregate}
 use Rattle.lb_tree.specs.declared.query.Atom.{Atom}
 use Rattle.lb_tree.specs.declared.query.Atom.TheVariants as atoms
 use Rattle.lb_tree.specs.declared.query.Column.{Column}
 use Rattle.lb_tree.specs.declared.query.Comparison.{Comparison}
 use Rattle.lb_tree.specs.declared.query.Comparison.TheVariants as comparisons
-use Rattle.lb_tree.specs.declared.query.Direction.{Direction}
 use Rattle.lb_tree.specs.declared.query.Direction.TheVariants.{Ascending, Descending}
 use Rattle.lb_tree.specs.declared.query.Expr.{Expr}
 use Rattle.lb_tree.specs.declared.query.Cond.{Cond}

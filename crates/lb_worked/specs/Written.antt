@@ -1,12 +1,11 @@
 -- Small writes: the order of checks, keys, places, masked sources.
-use Rattle.std.specs.Prelude.{ℕ, ◌≡◌, true, List, [], ◌∷◌, Some, None, codes}
+use Rattle.std.specs.Prelude.{◌≡◌, true, List, [], ◌∷◌, Some, None, codes}
 use Rattle.lb_base.specs.declared.key.Ty.TheVariants as types
 use Rattle.lb_base.specs.declared.value.Value.{Value}
 use Rattle.lb_stmt.specs.declared.write.Stmt.{Stmt}
 use Rattle.lb_cat.specs.declared.refusal.Refusal.TheVariants as refusals
 use Rattle.lb_cat.specs.declared.reply.Verb.TheVariants as verbs
-use Rattle.lb_cat.specs.Catalog.{Cat, Table}
-use Rattle.lb_rows.specs.Tables.{Tables}
+use Rattle.lb_cat.specs.Catalog.{Table}
 use Rattle.lb_answer.specs.Answer.{Answered}
 use Rattle.lb_worked.specs.Changes.{insert, insert_where, update, delete, wrote, refused}
 use Rattle.lb_worked.specs.Masked.{emp, m2, rows as employees}
