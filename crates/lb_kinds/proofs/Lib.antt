@@ -10,3 +10,5 @@ mod Leaves
 mod Expressions
 mod Rows
 mod Trees
+mod Frames
+mod Outputs
