@@ -29,7 +29,7 @@ use Rattle.lb_kinds.specs.Agreement.{AgreesOn}
 use Rattle.lb_kinds.specs.Standing.{Scopes, seen_in, own_in, level_of, IsSight, is_empty, is_bare, IsBarred, IsBelow, PieceFits, JoinedFits, FrameFits, FramesFit, HoldsFor}
 use Rattle.lb_kinds.specs.Laws.{FramesHoldRows}
 use Rattle.lb_kinds.proofs.Results.{no_false}
-use Rattle.lb_kinds.proofs.Rows.{GivesAll, IfGood, all_then, any_then, all_mapped, kept_all, passing_all, keys_all, gathered_all, GroupHas, joined_fits}
+use Rattle.lb_kinds.proofs.Rows.{GivesAll, all_then, any_then, all_mapped, kept_all, passing_all, keys_all, gathered_all, GroupHas, joined_fits}
 use Rattle.lb_kinds.proofs.Trees.{items_total, chains_fit}
 
 -- ---- sights

@@ -12,3 +12,4 @@ mod Rows
 mod Trees
 mod Frames
 mod Outputs
+mod Begins

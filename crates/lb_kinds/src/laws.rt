@@ -1,4 +1,5 @@
 // Laws over the definitions. Each is the contract of a function that does nothing.
+ghost use Rattle.lb_kinds.specs.Begins.{NothingHolds, TargetHolds, RowsHold, JoinedRowsFit};
 ghost use Rattle.lb_kinds.specs.Laws.{ColumnsGiveTheirKind, ExpressionsGiveTheirKind, FramesHoldRows, OutputsGiveTheirKinds};
 
 /// A column that may stand at a place gives null or a value of its column's kind in an environment that holds rows for what is
@@ -23,4 +24,13 @@ pub fn frames_hold_rows_in_sight()
 /// masks or without, or a fault.
 pub fn typed_queries_give_outputs_of_their_kinds()
     ensures { OutputsGiveTheirKinds }
+{}
+
+/// The environments in which statements, stored conditions, WHERE and ON are evaluated hold rows for what is in sight there: none
+/// for VALUES, a row of the target or of the table of a permission or mask, and each joined row of a query.
+pub fn evaluation_begins_with_rows_in_sight()
+    ensures nothing { NothingHolds }
+    ensures target { TargetHolds }
+    ensures rows { RowsHold }
+    ensures joined { JoinedRowsFit }
 {}
