@@ -13,3 +13,5 @@ mod Trees
 mod Frames
 mod Outputs
 mod Begins
+mod Compared
+mod Conditions

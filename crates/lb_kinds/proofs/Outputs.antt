@@ -65,7 +65,7 @@ each_gives policies (k ∷ ks) (Ok v ∷ xs) h = go (each xs) (each_gives polici
     go (Err fault) g = tt
 
 module _ (C : Catalogue) (S : Setting) (agrees : AgreesOn C S) where
-  abbrev Each : List Kind → List (Evaluated Value) → Type 0
+  abbrev pub Each : List Kind → List (Evaluated Value) → Type 0
   Each ks xs = AllZip (Gives S.policies) ks xs
 
   -- ---- `*`
@@ -274,7 +274,7 @@ module _ (C : Catalogue) (S : Setting) (agrees : AgreesOn C S) where
           (stands_shown P home (tabs_of C S x) (groups_of C (NLayer C S x) R P) (of_each (λ i. i.marks) (map NI x.items) (inside P.sight (tabs_of C S x))) w) d y.1)
 
   -- a query whose outputs are of these kinds wherever a frame holds for its select list
-  abbrev QueryLaw : typed.Answers → meant.Answers → Days → Type 0
+  abbrev pub QueryLaw : typed.Answers → meant.Answers → Days → Type 0
   QueryLaw m w days = (P : Place) (home : Option ℕ) → StandsIn C P home (m.marks P.sight) → AreDays days → (R : typed.Role) (n j : ℕ) (ks : List Kind) → m.kinds R P n ≡ Ok (ks, j)
       → (env : Env) → HoldsFor C S (m.shown R P) home env → GivesKinds S.policies ks (outputs w.items env)
 
@@ -286,7 +286,7 @@ module _ (C : Catalogue) (S : Setting) (agrees : AgreesOn C S) where
       listed_gives x R P home env n ks (kinds_listed x R P n ks j e) holds (stands_first C P home shown more (stands_second C P home (enter (items_in P.sight.seen (tabs_of C S x)) ∷ []) (shown ++ more) w))
         (days_first (all_of (map DI x.items)) (all_of (DLayer x).from ++ (if_given (DLayer x).filter ++ if_given (DLayer x).having)) d)
 
-  query_law : (q : Query) → QueryLaw (query_of typed.typing (typed_steps C) q) (query_of meant.meaning (steps S) q) (query_of writing day_steps q)
+  pub query_law : (q : Query) → QueryLaw (query_of typed.typing (typed_steps C) q) (query_of meant.meaning (steps S) q) (query_of writing day_steps q)
   query_law q =
       subst (λ m. QueryLaw m (query_of meant.meaning (steps S) q) (query_of writing day_steps q)) (sym (query_out typed.typing (typed_steps C) q))
         (subst (λ w. QueryLaw (typed_query_step C (NLayer C S (out-Query q))) w (query_of writing day_steps q)) (sym (query_out meant.meaning (steps S) q))

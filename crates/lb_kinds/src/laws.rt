@@ -1,5 +1,8 @@
 // Laws over the definitions. Each is the contract of a function that does nothing.
 ghost use Rattle.lb_kinds.specs.Begins.{NothingHolds, TargetHolds, RowsHold, JoinedRowsFit};
+ghost use Rattle.lb_kinds.specs.Compared.{
+    ComparesOneKind, ListHasOneKind, BoundsHaveOneKind, ScalarHasOneKind, RowsHaveOneKind,
+};
 ghost use Rattle.lb_kinds.specs.Laws.{ColumnsGiveTheirKind, ExpressionsGiveTheirKind, FramesHoldRows, OutputsGiveTheirKinds};
 
 /// A column that may stand at a place gives null or a value of its column's kind in an environment that holds rows for what is
@@ -33,4 +36,14 @@ pub fn evaluation_begins_with_rows_in_sight()
     ensures target { TargetHolds }
     ensures rows { RowsHold }
     ensures joined { JoinedRowsFit }
+{}
+
+/// A condition without a broken node compares null and values of one kind alone: both sides of a comparison, a value with those of
+/// IN, with the bounds of BETWEEN, with a scalar subquery, and with the rows of the subquery of IN.
+pub fn typed_conditions_compare_values_of_one_kind()
+    ensures compared { ComparesOneKind }
+    ensures list { ListHasOneKind }
+    ensures bounds { BoundsHaveOneKind }
+    ensures scalar { ScalarHasOneKind }
+    ensures rows { RowsHaveOneKind }
 {}
