@@ -17,7 +17,7 @@ use Rattle.lb_mean.specs.Meaning.{steps, chains}
 use Rattle.lb_kinds.specs.Standing.{Scopes, IsSight, PieceFits, JoinedFits, FrameFits, HoldsFor}
 use Rattle.lb_kinds.specs.Begins.{NothingHolds, TargetHolds, RowsHold, JoinedRowsFit}
 use Rattle.lb_kinds.proofs.Rows.{joined_fits}
-use Rattle.lb_kinds.proofs.Trees.{chains_fit}
+use Rattle.lb_kinds.proofs.Chains.{chains_fit}
 use Rattle.lb_kinds.proofs.Frames.{inner_sight}
 
 pub nothing_holds : NothingHolds

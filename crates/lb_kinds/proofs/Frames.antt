@@ -30,7 +30,8 @@ use Rattle.lb_kinds.specs.Standing.{Scopes, seen_in, own_in, level_of, IsSight, 
 use Rattle.lb_kinds.specs.Laws.{FramesHoldRows}
 use Rattle.lb_kinds.proofs.Results.{no_false}
 use Rattle.lb_kinds.proofs.Rows.{GivesAll, all_then, any_then, all_mapped, kept_all, passing_all, keys_all, gathered_all, GroupHas, joined_fits}
-use Rattle.lb_kinds.proofs.Trees.{items_total, chains_fit}
+use Rattle.lb_kinds.proofs.Totals.{items_total}
+use Rattle.lb_kinds.proofs.Chains.{chains_fit}
 
 -- ---- sights
 
@@ -175,7 +176,7 @@ module _ (C : Catalogue) (S : Setting) (agrees : AgreesOn C S) (P : Place) (home
   bare_step x R e h =
       subst (λ cs. (is_listed cs || (is_some (NLayer C S x).having || (R.total || list_any (λ i. i.total) (NLayer C S x).items))) ≡ true) (sym e)
         (reordered R.total (list_any (λ i. i.total) (NLayer C S x).items) (list_any (λ i. i.total) (VLayer C S x).items) (given (VLayer C S x).having) (is_some (NLayer C S x).having)
-          (items_total C S agrees x.items) (same_having x.having)
+          (items_total C S x.items) (same_having x.having)
           (subst (λ cs. (R.total || (list_any (λ i. i.total) (VLayer C S x).items || (any_listed cs || given (VLayer C S x).having))) ≡ true) e h))
 
   bare_query : (x : Written layers.Query-F) (R : typed.Role) → queries.is_grouped R.total (VLayer C S x) ≡ true → x.group ≡ []

@@ -9,7 +9,9 @@ mod Aggregated
 mod Leaves
 mod Expressions
 mod Rows
-mod Trees
+mod Totals
+mod Chains
+mod Stars
 mod Frames
 mod Outputs
 mod Begins

@@ -49,6 +49,7 @@ use Rattle.lb_kinds.proofs.Shares.{stands_first, stands_second, days_first, days
 use Rattle.lb_kinds.proofs.Typings.{Bound, bound, is_if}
 use Rattle.lb_kinds.proofs.Expressions.{all_good}
 use Rattle.lb_kinds.proofs.Rows.{zip_first, GivesAll}
+use Rattle.lb_kinds.proofs.Stars.{Each, NI, VI, DI, item_all}
 use Rattle.lb_kinds.proofs.Frames.{NLayer, VLayer, tabs_of, query_stood, shown_holds}
 
 -- ---- outputs, one after the other
@@ -65,160 +66,31 @@ each_gives policies (k ∷ ks) (Ok v ∷ xs) h = go (each xs) (each_gives polici
     go (Err fault) g = tt
 
 module _ (C : Catalogue) (S : Setting) (agrees : AgreesOn C S) where
-  abbrev pub Each : List Kind → List (Evaluated Value) → Type 0
-  Each ks xs = AllZip (Gives S.policies) ks xs
-
-  -- ---- `*`
-
-  cells_zip : (fields : List Field) (cells : List (Evaluated Value)) → CellsFit S.policies fields cells → Each (map (λ f. f.kind) fields) cells
-  cells_zip [] [] h = tt
-  cells_zip [] (x ∷ cells) h = absurd h
-  cells_zip (f ∷ fields) [] h = absurd h
-  cells_zip (f ∷ fields) (x ∷ cells) h = (h.0, cells_zip fields cells h.1)
-
-  -- a choice of items by their correlation names
-  abbrev items_by : (Name → Bool) → List Seen → List Seen
-  items_by t items = filter (λ s. t (correlation s.tab)) items
-
-  abbrev rows_by : (Name → Bool) → JoinedRow → JoinedRow
-  rows_by t row = filter (λ p. t p.correlation) row
-
-  zip_step : (b : Bool) (s : Seen) (items : List Seen) (p : Piece) (row : JoinedRow) → PieceFits C S s.tab p → Each (column_kinds C items) (flat_map (λ q. q.cells) row)
-      → Each (column_kinds C (cond b (s ∷ items) items)) (flat_map (λ q. q.cells) (cond b (p ∷ row) row))
-  zip_step true s items p row h g = zip_first (Gives S.policies) (kinds_of_item C s) p.cells (column_kinds C items) (flat_map (λ q. q.cells) row) (cells_zip (columns_of C s.tab) p.cells h.cells) g
-  zip_step false s items p row h g = g
-
-  columns_zip : (t : Name → Bool) (level : ℕ) (tabs : List Tab) (row : JoinedRow) → JoinedFits C S tabs row → Each (column_kinds C (items_by t (map (at_level level) tabs))) (flat_map (λ p. p.cells) (rows_by t row))
-  columns_zip t level [] [] h = tt
-  columns_zip t level [] (p ∷ row) h = absurd h
-  columns_zip t level (tab ∷ tabs) [] h = absurd h
-  columns_zip t level (tab ∷ tabs) (p ∷ row) h =
-      subst (λ n. Each (column_kinds C (items_by t (map (at_level level) (tab ∷ tabs)))) (flat_map (λ q. q.cells) (cond (t n) (p ∷ rows_by t row) (rows_by t row)))) (sym h.0.correlation)
-        (zip_step (t (correlation tab)) (at_level level tab) (items_by t (map (at_level level) tabs)) p (rows_by t row) h.0 (columns_zip t level tabs row h.1))
-
-  -- all columns of items of a level that is not asked for are free only where there are none
-  no_fields : (P : Place) (s : Seen) (fields : List Field) → P.within ≡ false → IsBarred P.groups None s.level → list_all (λ f. is_free P (spot_of s f.name)) fields ≡ true → map (λ f. f.kind) fields ≡ []
-  no_fields P s [] w b e = refl
-  no_fields P s (f ∷ fields) w b e =
-      absurd (grouped C S agrees (spot_of s f.name) P.groups
-        (free_outside C S agrees P.within (spot_of s f.name) P.groups w (left_true (is_free P (spot_of s f.name)) (list_all (λ f. is_free P (spot_of s f.name)) fields) e)) b)
-
-  no_kinds_step : (P : Place) (c : Bool) (level : ℕ) (tab : Tab) (items : List Seen) → P.within ≡ false → IsBarred P.groups None level → all_free P C (cond c (at_level level tab ∷ items) items) ≡ true
-      → (all_free P C items ≡ true → column_kinds C items ≡ []) → column_kinds C (cond c (at_level level tab ∷ items) items) ≡ []
-  no_kinds_step P true level tab items w b e rec =
-      ap (λ ks. ks ++ column_kinds C items) (no_fields P (at_level level tab) (columns_of C tab) w b (left_true (all_free_of P C (at_level level tab)) (all_free P C items) e))
-      ∙ rec (right_true (all_free_of P C (at_level level tab)) (all_free P C items) e)
-  no_kinds_step P false level tab items w b e rec = rec e
-
-  no_kinds : (P : Place) (t : Name → Bool) (level : ℕ) (tabs : List Tab) → P.within ≡ false → IsBarred P.groups None level → all_free P C (items_by t (map (at_level level) tabs)) ≡ true → column_kinds C (items_by t (map (at_level level) tabs)) ≡ []
-  no_kinds P t level [] w b e = refl
-  no_kinds P t level (tab ∷ tabs) w b e = no_kinds_step P (t (correlation tab)) level tab (items_by t (map (at_level level) tabs)) w b e (no_kinds P t level tabs w b)
-
-  star_frame : (P : Place) (t : Name → Bool) (tabs : List Tab) (outer : List Seen) (f : Frame) → P.within ≡ false → (JoinedFits C S tabs f.row ⊎ ((f.row ≡ []) × IsBarred P.groups None (level_in outer))) → all_free P C (items_by t (items_in outer tabs)) ≡ true
-      → Each (column_kinds C (items_by t (items_in outer tabs))) (flat_map (λ p. p.cells) (rows_by t f.row))
-  star_frame P t tabs outer f w (inl h) e = columns_zip t (level_in outer) tabs f.row h
-  star_frame P t tabs outer f w (inr h) e =
-      subst (λ row. Each (column_kinds C (items_by t (items_in outer tabs))) (flat_map (λ p. p.cells) (rows_by t row))) (sym h.0)
-        (subst (λ ks. Each ks []) (sym (no_kinds P t (level_in outer) tabs w h.1 e)) tt)
-
-  star_step : (P : Place) (t : Name → Bool) (scopes : Scopes) (env : Env) → P.within ≡ false → FramesFit C S (IsBarred P.groups None) scopes env → all_free P C (items_by t (own_in scopes)) ≡ true
-      → Each (column_kinds C (items_by t (own_in scopes))) (flat_map (λ p. p.cells) (rows_by t (own_row env)))
-  star_step P t [] [] w h e = tt
-  star_step P t [] (f ∷ env) w h e = absurd h
-  star_step P t (tabs ∷ scopes) [] w h e = absurd h
-  star_step P t (tabs ∷ scopes) (f ∷ env) w h e = star_frame P t tabs (seen_in scopes) f w h.0.row e
-
-  star_gives : (P : Place) (home : Option ℕ) (env : Env) (t : Name → Bool) (items : List Seen) (x : Option Name) → HoldsFor C S P home env → StandsIn C P home (star items x ∷ []) → all_free P C (items_by t P.sight.own) ≡ true
-      → Each (column_kinds C (items_by t P.sight.own)) (flat_map (λ p. p.cells) (rows_by t (own_row env)))
-  star_gives P None env t items x holds w e =
-      subst (λ own. Each (column_kinds C (items_by t own)) (flat_map (λ p. p.cells) (rows_by t (own_row env)))) (sym holds.sight.own)
-        (star_step P t holds.scopes env w holds.frames (subst (λ own. all_free P C (items_by t own) ≡ true) holds.sight.own e))
-  star_gives P (Some home) env t items x holds w e = absurd (no_false w)
-
-  all_kept : (items : List Seen) → items_by (λ n. true) items ≡ items
-  all_kept [] = refl
-  all_kept (s ∷ items) = ap (λ xs. s ∷ xs) (all_kept items)
-
-  -- ---- items
-
-  abbrev NI : Item → typed.Shows
-  NI = item_of typed.typing (typed_steps C)
-
-  abbrev VI : Item → meant.Shows
-  VI = item_of meant.meaning (steps S)
-
-  abbrev DI : Item → Days
-  DI = item_of writing day_steps
-
-  abbrev ItemLaw : typed.Shows → meant.Shows → Days → Type 0
-  ItemLaw m w days = (P : Place) (home : Option ℕ) (env : Env) → HoldsFor C S P home env → StandsIn C P home (m.marks P.sight) → AreDays days
-      → (W : typed.Wanted) (n j : ℕ) (ks : List Kind) → m.outputs W P n ≡ Ok (ks, j) → Each ks (w.values env)
-
-  abbrev GItem : Item → Type 0
-  GItem x = ItemLaw (NI x) (VI x) (DI x)
-
-  by_item : (x : Written layers.Item-F) → ItemLaw (typed_item_step C (item_layer typed.typing (typed_steps C) x)) (item_step (item_layer meant.meaning (steps S) x)) (in_item_layer (item_layer writing day_steps x)) → GItem (roll-Item x)
-  by_item x h =
-      subst (λ m. ItemLaw m (VI (roll-Item x)) (DI (roll-Item x))) (sym (item_roll typed.typing (typed_steps C) x))
-        (subst (λ w. ItemLaw (typed_item_step C (item_layer typed.typing (typed_steps C) x)) w (DI (roll-Item x))) (sym (item_roll meant.meaning (steps S) x))
-          (subst (λ d. ItemLaw (typed_item_step C (item_layer typed.typing (typed_steps C) x)) (item_step (item_layer meant.meaning (steps S) x)) d) (sym (item_roll writing day_steps x)) h))
-
-  of_kinds : (is ks : List Kind) (m j : ℕ) (xs : List (Evaluated Value)) → ◌≡◌ {A = List Kind × ℕ} (is, m) (ks, j) → Each is xs → Each ks xs
-  of_kinds is ks m j xs e h = subst (λ z. Each z xs) (ap (λ y. y.0) e) h
-
-  star_law : (P : Place) (W : typed.Wanted) (items : List Seen) (n j : ℕ) (ks : List Kind) (xs : List (Evaluated Value)) → (all_free P C items ≡ true → Each (column_kinds C items) xs) → star_outputs C items W P n ≡ Ok (ks, j) → Each ks xs
-  star_law P W items n j ks xs h e =
-      let b : (star_fits C items W P ≡ true) × ◌≡◌ {A = List Kind × ℕ} (column_kinds C items, next n) (ks, j) = is_if (star_fits C items W P) n (column_kinds C items, next n) (ks, j) e in
-      of_kinds (column_kinds C items) ks (next n) j xs b.1
-        (h (left_true (all_free P C items) (fit W (column_kinds C items)) (right_true (not (P.stored && (W.one || W.grouped))) (all_free P C items && fit W (column_kinds C items)) b.0)))
-
-  item_good : (x : Written layers.Item-F) → GItem (roll-Item x)
-  item_good layers.Item-F.Everything = by_item layers.Item-F.Everything
-      (λ P home env holds w d W n j ks e. star_law P W P.sight.own n j ks (flat_map (λ p. p.cells) (rows_by (λ n. true) (own_row env)))
-        (λ free. subst (λ own. Each (column_kinds C own) (flat_map (λ p. p.cells) (rows_by (λ n. true) (own_row env)))) (all_kept P.sight.own)
-          (star_gives P home env (λ n. true) P.sight.own None holds w (subst (λ own. all_free P C own ≡ true) (sym (all_kept P.sight.own)) free))) e)
-  item_good (layers.Item-F.AllOf x) = by_item (layers.Item-F.AllOf x)
-      (λ P home env holds w d W n j ks e. star_law P W (called x P.sight.own) n j ks (flat_map (λ p. p.cells) (rows_by (λ n. bytes_eq n x) (own_row env)))
-        (λ free. star_gives P home env (λ n. bytes_eq n x) P.sight.own (Some x) holds w free) e)
-  item_good (layers.Item-F.Value x name) = by_item (layers.Item-F.Value x name)
-      (λ P home env holds w d W n j ks e.
-        let m : typed.Means = expr_of typed.typing (typed_steps C) x in
-        let b : Bound (m.kind P n) (λ y. only_if (fit W (y.0 ∷ [])) n (y.0 ∷ [], y.1)) (ks, j) = bound (m.kind P n) (λ y. only_if (fit W (y.0 ∷ [])) n (y.0 ∷ [], y.1)) (ks, j) e in
-        of_kinds (b.0.0 ∷ []) ks b.0.1 j ((expr_of meant.meaning (steps S) x).value env ∷ []) (is_if (fit W (b.0.0 ∷ [])) n (b.0.0 ∷ [], b.0.1) (ks, j) b.2).1
-          (all_good C S agrees x P home env holds w d n b.0.1 b.0.0 b.1, tt))
-
-  -- nothing is claimed of the other nodes
-  abbrev Any : {X : Type 0} → X → Type 0
-  Any x = Unit {0}
-
-  item_all : (x : Item) → GItem x
-  item_all = ind-Item Any Any GItem Any Any Any Any Any Any (λ x y is. tt) (λ x y is. tt) (λ x y is. item_good x) (λ x y is. tt) (λ x y is. tt) (λ x y is. tt) (λ x y is. tt) (λ x y is. tt) (λ x y is. tt)
-
   -- ---- select lists
 
   module _ (P : Place) (home : Option ℕ) (env : Env) (holds : HoldsFor C S P home env) where
     abbrev More : List Kind → List (Evaluated Value) → List Kind → Type 0
-    More so_far xs ks = (more : List Kind) × (ks ≡ so_far ++ more) × Each more xs
+    More so_far xs ks = (more : List Kind) × (ks ≡ so_far ++ more) × Each C S agrees more xs
 
-    items_give : (xs : List Item) (so_far : List Kind) (W : typed.Wanted) (n : ℕ) (y : List Kind × ℕ) → StandsIn C P home (of_each (λ i. i.marks) (map NI xs) P.sight) → AreDays (all_of (map DI xs))
-        → outputs_of (map NI xs) so_far W P n ≡ Ok y → More so_far (flat_map (λ i. i.values env) (map VI xs)) y.0
+    items_give : (xs : List Item) (so_far : List Kind) (W : typed.Wanted) (n : ℕ) (y : List Kind × ℕ) → StandsIn C P home (of_each (λ i. i.marks) (map (NI C S agrees) xs) P.sight) → AreDays (all_of (map (DI C S agrees) xs))
+        → outputs_of (map (NI C S agrees) xs) so_far W P n ≡ Ok y → More so_far (flat_map (λ i. i.values env) (map (VI C S agrees) xs)) y.0
     items_give [] so_far W n y w d e = ([], ap (λ z. z.0) (sym (same_ok {B = ℕ} (so_far, n) y e)) ∙ sym (append-nil so_far), tt)
     items_give (x ∷ xs) so_far W n y w d e =
-        let f : List Kind × ℕ → Typed (List Kind) = λ z. outputs_of (map NI xs) (so_far ++ z.0) (record W { kinds = rest_of W.kinds (length z.0) }) P z.1 in
-        let b : Bound ((NI x).outputs W P n) f y = bound ((NI x).outputs W P n) f y e in
-        let names : Marks = of_each (λ i. i.marks) (map NI xs) P.sight in
-        let days : Days = all_of (map DI xs) in
-        let r : More (so_far ++ b.0.0) (flat_map (λ i. i.values env) (map VI xs)) y.0 =
-          items_give xs (so_far ++ b.0.0) (record W { kinds = rest_of W.kinds (length b.0.0) }) b.0.1 y (stands_second C P home ((NI x).marks P.sight) names w) (days_second (DI x) days d) b.2 in
+        let f : List Kind × ℕ → Typed (List Kind) = λ z. outputs_of (map (NI C S agrees) xs) (so_far ++ z.0) (record W { kinds = rest_of W.kinds (length z.0) }) P z.1 in
+        let b : Bound (((NI C S agrees) x).outputs W P n) f y = bound (((NI C S agrees) x).outputs W P n) f y e in
+        let names : Marks = of_each (λ i. i.marks) (map (NI C S agrees) xs) P.sight in
+        let days : Days = all_of (map (DI C S agrees) xs) in
+        let r : More (so_far ++ b.0.0) (flat_map (λ i. i.values env) (map (VI C S agrees) xs)) y.0 =
+          items_give xs (so_far ++ b.0.0) (record W { kinds = rest_of W.kinds (length b.0.0) }) b.0.1 y (stands_second C P home (((NI C S agrees) x).marks P.sight) names w) (days_second ((DI C S agrees) x) days d) b.2 in
         (b.0.0 ++ r.0, r.1 ∙ append_assoc so_far b.0.0 r.0,
-         zip_first (Gives S.policies) b.0.0 ((VI x).values env) r.0 (flat_map (λ i. i.values env) (map VI xs))
-           (item_all x P home env holds (stands_first C P home ((NI x).marks P.sight) names w) (days_first (DI x) days d) W n b.0.1 b.0.0 b.1) r.2)
+         zip_first (Gives S.policies) b.0.0 (((VI C S agrees) x).values env) r.0 (flat_map (λ i. i.values env) (map (VI C S agrees) xs))
+           (item_all C S agrees x P home env holds (stands_first C P home (((NI C S agrees) x).marks P.sight) names w) (days_first ((DI C S agrees) x) days d) W n b.0.1 b.0.0 b.1) r.2)
 
-    pub outputs_give : (xs : List Item) (W : typed.Wanted) (n : ℕ) (y : List Kind × ℕ) → StandsIn C P home (of_each (λ i. i.marks) (map NI xs) P.sight) → AreDays (all_of (map DI xs))
-        → outputs_of (map NI xs) [] W P n ≡ Ok y → GivesKinds S.policies y.0 (outputs (map VI xs) env)
+    pub outputs_give : (xs : List Item) (W : typed.Wanted) (n : ℕ) (y : List Kind × ℕ) → StandsIn C P home (of_each (λ i. i.marks) (map (NI C S agrees) xs) P.sight) → AreDays (all_of (map (DI C S agrees) xs))
+        → outputs_of (map (NI C S agrees) xs) [] W P n ≡ Ok y → GivesKinds S.policies y.0 (outputs (map (VI C S agrees) xs) env)
     outputs_give xs W n y w d e =
-        let r : More [] (flat_map (λ i. i.values env) (map VI xs)) y.0 = items_give xs [] W n y w d e in
-        each_gives S.policies y.0 (flat_map (λ i. i.values env) (map VI xs)) (subst (λ ks. Each ks (flat_map (λ i. i.values env) (map VI xs))) (sym r.1) r.2)
+        let r : More [] (flat_map (λ i. i.values env) (map (VI C S agrees) xs)) y.0 = items_give xs [] W n y w d e in
+        each_gives S.policies y.0 (flat_map (λ i. i.values env) (map (VI C S agrees) xs)) (subst (λ ks. Each C S agrees ks (flat_map (λ i. i.values env) (map (VI C S agrees) xs))) (sym r.1) r.2)
 
   -- ---- queries
 
@@ -227,11 +99,11 @@ module _ (C : Catalogue) (S : Setting) (agrees : AgreesOn C S) where
   stands_shown P (Some home) tabs groups marks w = w
 
   abbrev DLayer : Written layers.Query-F → layers.Query-F Days Days Days Days Days Days Days Days Days
-  DLayer x = record { distinct = x.distinct; items = map DI x.items; from = map (chain_of writing day_steps) x.from; filter = option_map (cond_of writing day_steps) x.filter; group = x.group; having = option_map (cond_of writing day_steps) x.having }
+  DLayer x = record { distinct = x.distinct; items = map (DI C S agrees) x.items; from = map (chain_of writing day_steps) x.from; filter = option_map (cond_of writing day_steps) x.filter; group = x.group; having = option_map (cond_of writing day_steps) x.having }
 
   -- the kinds of a query are those of its select list
   abbrev ListOf : Written layers.Query-F → typed.Role → Place → ℕ → List Kind → Type 0
-  ListOf x R P n ks = (y : List Kind × ℕ) × (outputs_of (map NI x.items) [] (wanted_of (NLayer C S x) R P) (shown_place P (tabs_of C S x) (groups_of C (NLayer C S x) R P)) (next n) ≡ Ok y) × (y.0 ≡ ks)
+  ListOf x R P n ks = (y : List Kind × ℕ) × (outputs_of (map (NI C S agrees) x.items) [] (wanted_of (NLayer C S x) R P) (shown_place P (tabs_of C S x) (groups_of C (NLayer C S x) R P)) (next n) ≡ Ok y) × (y.0 ≡ ks)
 
   module _ (x : Written layers.Query-F) (R : typed.Role) (P : Place) (n : ℕ) where
     abbrev L : layers.Query-F typed.Says typed.Means typed.Shows typed.Joins typed.Arms typed.Chains typed.Choices typed.Answers typed.Means
@@ -257,7 +129,7 @@ module _ (C : Catalogue) (S : Setting) (agrees : AgreesOn C S) where
 
     kinds_listed : (ks : List Kind) (j : ℕ) → query_kinds C L tabs groups R P n ≡ Ok (ks, j) → ListOf x R P n ks
     kinds_listed ks j e =
-        let a : Bound (outputs_of (map NI x.items) [] (wanted_of L R P) (shown_place P tabs groups) (next n)) from_chains (ks, j) = bound (outputs_of (map NI x.items) [] (wanted_of L R P) (shown_place P tabs groups) (next n)) from_chains (ks, j) e in
+        let a : Bound (outputs_of (map (NI C S agrees) x.items) [] (wanted_of L R P) (shown_place P tabs groups) (next n)) from_chains (ks, j) = bound (outputs_of (map (NI C S agrees) x.items) [] (wanted_of L R P) (shown_place P tabs groups) (next n)) from_chains (ks, j) e in
         let f : Bound (chains_typed P (calls_of tabs) L.from a.0.1) (from_filter a.0) (ks, j) = bound (chains_typed P (calls_of tabs) L.from a.0.1) (from_filter a.0) (ks, j) a.2 in
         let w : Bound (maybe_typed L.filter (filter_place P tabs) f.0.1) (from_group a.0) (ks, j) = bound (maybe_typed L.filter (filter_place P tabs) f.0.1) (from_group a.0) (ks, j) f.2 in
         let g : Bound (group_typed C (filter_place P tabs) x.group w.0.1) (from_having a.0) (ks, j) = bound (group_typed C (filter_place P tabs) x.group w.0.1) (from_having a.0) (ks, j) w.2 in
@@ -267,11 +139,11 @@ module _ (C : Catalogue) (S : Setting) (agrees : AgreesOn C S) where
   -- the select list of a query, where a frame of it is the innermost one
   listed_gives : (x : Written layers.Query-F) (R : typed.Role) (P : Place) (home : Option ℕ) (env : Env) (n : ℕ) (ks : List Kind) → ListOf x R P n ks
       → HoldsFor C S (shown_place P (tabs_of C S x) (groups_of C (NLayer C S x) R P)) home env
-      → StandsIn C P home (of_each (λ i. i.marks) (map NI x.items) (inside P.sight (tabs_of C S x))) → AreDays (all_of (map DI x.items)) → GivesKinds S.policies ks (outputs (map VI x.items) env)
+      → StandsIn C P home (of_each (λ i. i.marks) (map (NI C S agrees) x.items) (inside P.sight (tabs_of C S x))) → AreDays (all_of (map (DI C S agrees) x.items)) → GivesKinds S.policies ks (outputs (map (VI C S agrees) x.items) env)
   listed_gives x R P home env n ks y holds w d =
-      subst (λ z. GivesKinds S.policies z (outputs (map VI x.items) env)) y.2
+      subst (λ z. GivesKinds S.policies z (outputs (map (VI C S agrees) x.items) env)) y.2
         (outputs_give (shown_place P (tabs_of C S x) (groups_of C (NLayer C S x) R P)) home env holds x.items (wanted_of (NLayer C S x) R P) (next n) y.0
-          (stands_shown P home (tabs_of C S x) (groups_of C (NLayer C S x) R P) (of_each (λ i. i.marks) (map NI x.items) (inside P.sight (tabs_of C S x))) w) d y.1)
+          (stands_shown P home (tabs_of C S x) (groups_of C (NLayer C S x) R P) (of_each (λ i. i.marks) (map (NI C S agrees) x.items) (inside P.sight (tabs_of C S x))) w) d y.1)
 
   -- a query whose outputs are of these kinds wherever a frame holds for its select list
   abbrev pub QueryLaw : typed.Answers → meant.Answers → Days → Type 0
@@ -281,10 +153,10 @@ module _ (C : Catalogue) (S : Setting) (agrees : AgreesOn C S) where
   query_layer_law : (x : Written layers.Query-F) → QueryLaw (typed_query_step C (NLayer C S x)) (query_step (VLayer C S x)) (in_query_layer (DLayer x))
   query_layer_law x P home w d R n j ks e env holds =
       let v : Sight = inside P.sight (tabs_of C S x) in
-      let shown : Marks = of_each (λ i. i.marks) (map NI x.items) v in
+      let shown : Marks = of_each (λ i. i.marks) (map (NI C S agrees) x.items) v in
       let more : Marks = chains_marks P.sight (calls_of (tabs_of C S x)) [] (map typed.chain_marked (NLayer C S x).from) ++ (of_any (λ c. c.marks) (NLayer C S x).filter v ++ (map (column v.seen) x.group ++ of_any (λ c. c.marks) (NLayer C S x).having v)) in
       listed_gives x R P home env n ks (kinds_listed x R P n ks j e) holds (stands_first C P home shown more (stands_second C P home (enter (items_in P.sight.seen (tabs_of C S x)) ∷ []) (shown ++ more) w))
-        (days_first (all_of (map DI x.items)) (all_of (DLayer x).from ++ (if_given (DLayer x).filter ++ if_given (DLayer x).having)) d)
+        (days_first (all_of (map (DI C S agrees) x.items)) (all_of (DLayer x).from ++ (if_given (DLayer x).filter ++ if_given (DLayer x).having)) d)
 
   pub query_law : (q : Query) → QueryLaw (query_of typed.typing (typed_steps C) q) (query_of meant.meaning (steps S) q) (query_of writing day_steps q)
   query_law q =
