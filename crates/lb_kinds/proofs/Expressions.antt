@@ -46,49 +46,49 @@ use Rattle.lb_kinds.proofs.Leaves.{atom_gives, sum_node, product_node, text_node
 
 module _ (C : Catalogue) (S : Setting) (agrees : AgreesOn C S) where
   -- wherever it stands, a part gives a value of its kind
-  abbrev Law : typed.Means → meant.Means → Days → Type 0
+  abbrev pub Law : typed.Means → meant.Means → Days → Type 0
   Law m w days = (P : Place) (home : Option ℕ) (env : Env) → HoldsFor C S P home env → StandsIn C P home (m.marks P.sight) → AreDays days → PartGives S.policies P env m w
 
-  abbrev ArmLaw : typed.Arms → meant.Arms → Days → Type 0
+  abbrev pub ArmLaw : typed.Arms → meant.Arms → Days → Type 0
   ArmLaw m w days = (P : Place) (home : Option ℕ) (env : Env) → HoldsFor C S P home env → StandsIn C P home (m.marks P.sight) → AreDays days → ArmGives S.policies P env m w
 
-  abbrev ChoiceLaw : typed.Choices → meant.Chooses → Days → Type 0
+  abbrev pub ChoiceLaw : typed.Choices → meant.Chooses → Days → Type 0
   ChoiceLaw m w days = (P : Place) (home : Option ℕ) (env : Env) → HoldsFor C S P home env → StandsIn C P home (m.marks P.sight) → AreDays days → ChoiceGives S.policies P env m w
 
-  abbrev N : Expr → typed.Means
+  abbrev pub N : Expr → typed.Means
   N = expr_of typed.typing (typed_steps C)
 
-  abbrev V : Expr → meant.Means
+  abbrev pub V : Expr → meant.Means
   V = expr_of meant.meaning (steps S)
 
-  abbrev D : Expr → Days
+  abbrev pub D : Expr → Days
   D = expr_of writing day_steps
 
-  abbrev NA : Arm → typed.Arms
+  abbrev pub NA : Arm → typed.Arms
   NA = arm_of typed.typing (typed_steps C)
 
-  abbrev VA : Arm → meant.Arms
+  abbrev pub VA : Arm → meant.Arms
   VA = arm_of meant.meaning (steps S)
 
-  abbrev DA : Arm → Days
+  abbrev pub DA : Arm → Days
   DA = arm_of writing day_steps
 
-  abbrev NC : Choice → typed.Choices
+  abbrev pub NC : Choice → typed.Choices
   NC = choice_of typed.typing (typed_steps C)
 
-  abbrev VC : Choice → meant.Chooses
+  abbrev pub VC : Choice → meant.Chooses
   VC = choice_of meant.meaning (steps S)
 
-  abbrev DC : Choice → Days
+  abbrev pub DC : Choice → Days
   DC = choice_of writing day_steps
 
-  abbrev GExpr : Expr → Type 0
+  abbrev pub GExpr : Expr → Type 0
   GExpr x = Law (N x) (V x) (D x)
 
-  abbrev GArm : Arm → Type 0
+  abbrev pub GArm : Arm → Type 0
   GArm x = ArmLaw (NA x) (VA x) (DA x)
 
-  abbrev GChoice : Choice → Type 0
+  abbrev pub GChoice : Choice → Type 0
   GChoice x = ChoiceLaw (NC x) (VC x) (DC x)
 
   -- nothing is claimed of the other nodes
@@ -239,7 +239,7 @@ module _ (C : Catalogue) (S : Setting) (agrees : AgreesOn C S) where
         (stands_second C P home ((N y.when.0).marks P.sight) ((N y.result.0).marks P.sight) w)
         (days_second (D y.when.0) (D y.result.0) d))
 
-  all_good : (x : Expr) → GExpr x
+  pub all_good : (x : Expr) → GExpr x
   all_good = ind-Expr Any GExpr Any Any GArm Any GChoice Any Any (λ x y is. tt) (λ x y is. subst (λ z. GExpr (roll-Expr z)) is (expr_good y)) (λ x y is. tt) (λ x y is. tt) (λ x y is. subst (λ z. GArm (roll-Arm z)) is (arm_good y)) (λ x y is. tt) (λ x y is. subst (λ z. GChoice (roll-Choice z)) is (choice_good y)) (λ x y is. tt) (λ x y is. tt)
 
 pub expressions_give : ExpressionsGiveTheirKind

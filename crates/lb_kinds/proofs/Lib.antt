@@ -9,4 +9,11 @@ mod Aggregated
 mod Leaves
 mod Expressions
 mod Rows
-mod Trees
+mod Totals
+mod Chains
+mod Stars
+mod Frames
+mod Outputs
+mod Begins
+mod Compared
+mod Conditions

@@ -176,14 +176,14 @@ module _ (C : Catalogue) (S : Setting) (agrees : AgreesOn C S) where
   first_or_rest s g rest e not_rest (inr p) = not_rest p
 
   -- outside aggregates no column is of a query with groups and no GROUP BY
-  grouped : (s : Spot) (groups : List Group) → list_all (is_in_group s) groups ≡ true → list_any (is_bare s.level) groups ≡ true → ⊥
+  pub grouped : (s : Spot) (groups : List Group) → list_all (is_in_group s) groups ≡ true → list_any (is_bare s.level) groups ≡ true → ⊥
   grouped s [] e b = no_false b
   grouped s (g ∷ groups) e b =
       first_or_rest s g (list_any (is_bare s.level) groups) (left_true (is_in_group s g) (list_all (is_in_group s) groups) e)
         (grouped s groups (right_true (is_in_group s g) (list_all (is_in_group s) groups) e))
         (either_true (is_bare s.level g) (list_any (is_bare s.level) groups) b)
 
-  free_outside : (within : Bool) (s : Spot) (groups : List Group) → within ≡ false → (within || list_all (is_in_group s) groups) ≡ true → list_all (is_in_group s) groups ≡ true
+  pub free_outside : (within : Bool) (s : Spot) (groups : List Group) → within ≡ false → (within || list_all (is_in_group s) groups) ≡ true → list_all (is_in_group s) groups ≡ true
   free_outside true s groups w e = absurd (no_true w)
   free_outside false s groups w e = e
 

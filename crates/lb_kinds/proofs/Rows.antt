@@ -19,7 +19,7 @@ use Rattle.lb_mean.specs.Environment.{column_value}
 use Rattle.lb_mean.specs.Meant as meant
 use Rattle.lb_mean.specs.Joined.{correlation_of, piece, rows_seen, pieces, null_piece, beside, if_true, matches, or_nulls, inner, left, cross, follow, continued, joined_with, chain_rows, chain, in_front, combined, joined}
 use Rattle.lb_mean.specs.Queries.{one_more, kept, Keyed, Group, gather, gathered, keyed, first_row, group_frame}
-use Rattle.lb_kinds.specs.HasKind.{Policies}
+use Rattle.lb_kinds.specs.HasKind.{Policies, IfResult}
 use Rattle.lb_kinds.specs.Agreement.{SameName, RowFits, CellsFit, SourceFits, AgreesOn}
 use Rattle.lb_kinds.specs.Standing.{PieceFits, JoinedFits}
 use Rattle.lb_kinds.proofs.Values.{null_fits}
@@ -48,11 +48,6 @@ zip_first R (a ∷ as₁) (b ∷ bs) cs ds g h = (g.0, zip_first R as₁ bs cs d
 abbrev pub GivesAll : {A : Type 0} → (A → Type 0) → Evaluated (List A) → Type 0
 GivesAll P (Ok xs) = AllByRecursion P xs
 GivesAll P (Err fault) = Unit {0}
-
--- a result has it
-abbrev pub IfGood : {A : Type 0} → (A → Type 0) → Evaluated A → Type 0
-IfGood P (Ok x) = P x
-IfGood P (Err fault) = Unit {0}
 
 pub all_then : {A B : Type 0} (P : A → Type 0) (Q : B → Type 0) (x : Evaluated (List A)) (f : List A → Evaluated (List B)) → GivesAll P x → ((xs : List A) → AllByRecursion P xs → GivesAll Q (f xs)) → GivesAll Q (x >>= f)
 all_then P Q (Ok xs) f g h = h xs g
@@ -102,7 +97,7 @@ module _ (C : Catalogue) (S : Setting) (agrees : AgreesOn C S) where
   Fits tabs = JoinedFits C S tabs
 
   abbrev pub OkFits : List Tab → Evaluated JoinedRow → Type 0
-  OkFits tabs x = IfGood (Fits tabs) x
+  OkFits tabs x = IfResult (Fits tabs) x
 
   beside_fits : (tabs : List Tab) (row : JoinedRow) (tab : Tab) (p : Piece) → Fits tabs row → PieceFits C S tab p → Fits (tabs ++ tab ∷ []) (beside row p)
   beside_fits tabs row tab p g h = zip_first (PieceFits C S) tabs row (tab ∷ []) (p ∷ []) g (h, tt)
@@ -197,7 +192,7 @@ module _ {A : Type 0} (P : A → Type 0) where
   kept_step true x rest n g h = more_kept x rest n g h
   kept_step false x rest n g h = h n
 
-  pub kept_all : (test : A → Evaluated Bool) (rows : List (Evaluated A)) (n : ℕ) → AllByRecursion (IfGood P) rows → GivesAll P (kept test rows n)
+  pub kept_all : (test : A → Evaluated Bool) (rows : List (Evaluated A)) (n : ℕ) → AllByRecursion (IfResult P) rows → GivesAll P (kept test rows n)
   kept_all test [] n h = tt
   kept_all test (Err fault ∷ rows) n h = tt
   kept_all test (Ok x ∷ rows) n h = any_then P (test x) (λ b. if b then one_more x (kept test rows) n else kept test rows n) (λ b. kept_step b x (kept test rows) n h.0 (λ k. kept_all test rows k h.1))

@@ -80,7 +80,10 @@ day_steps = record {
   signed = λ x. x.part;
 }
 
--- the days in an expression and in a query
+-- the days in a condition, in an expression and in a query
+unfoldable pub days_in_cond : Cond → Days
+days_in_cond = cond_of writing day_steps
+
 unfoldable pub days_in : Expr → Days
 days_in = expr_of writing day_steps
 

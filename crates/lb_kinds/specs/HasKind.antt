@@ -41,3 +41,8 @@ HasKinds policies ks row = AllZip (HasKind policies) ks row
 abbrev pub GivesKinds : Policies → List Kind → Evaluated (List Value) → Type 0
 GivesKinds policies ks (Ok row) = HasKinds policies ks row
 GivesKinds policies ks (Err fault) = Unit {0}
+
+-- a result has it, where there is no fault
+abbrev pub IfResult : {A : Type 0} → (A → Type 0) → Evaluated A → Type 0
+IfResult P (Ok x) = P x
+IfResult P (Err fault) = Unit {0}

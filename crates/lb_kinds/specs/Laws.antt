@@ -36,3 +36,20 @@ ExpressionsGiveTheirKind = (C : Catalogue) (S : Setting) → AgreesOn C S
     → (e : Expr) → StandsIn C P home ((typed C e).marks P.sight) → AreDays (days_in e)
     → (n m : ℕ) (k : Kind) → (typed C e).kind P n ≡ Ok (k, m)
     → GivesKind S.policies k (value_of S e env)
+
+-- The rows or groups of a query hold rows for what is in sight in its select list, HAVING and ORDER BY, also as the outputs of a
+-- statement see them, with masks in the columns' places.
+abbrev pub FramesHoldRows : Type 0
+FramesHoldRows = (C : Catalogue) (S : Setting) → AgreesOn C S
+    → (P : Place) (home : Option ℕ) (env : Env) → HoldsFor C S P home env → IsBelow home P.sight
+    → (q : Query) (R : Role) (frames : List Frame) → (answers S q).frames R.total env ≡ Ok frames
+    → AllByRecursion (λ f. HoldsFor C S ((typed_query C q).shown R P) home (f ∷ env) × HoldsFor C S ((typed_query C q).shown R P) home (shown_frame f ∷ env)) frames
+
+-- each output of a query without a broken node is null or of the kind of its place in the select list, with masks or without
+abbrev pub OutputsGiveTheirKinds : Type 0
+OutputsGiveTheirKinds = (C : Catalogue) (S : Setting) → AgreesOn C S
+    → (P : Place) (home : Option ℕ) (env : Env) → HoldsFor C S P home env → IsBelow home P.sight
+    → (q : Query) → StandsIn C P home ((typed_query C q).marks P.sight) → AreDays (days_in_query q)
+    → (R : Role) (n m : ℕ) (ks : List Kind) → (typed_query C q).kinds R P n ≡ Ok (ks, m)
+    → (frames : List Frame) → (answers S q).frames R.total env ≡ Ok frames
+    → AllByRecursion (λ f. GivesKinds S.policies ks (outputs (answers S q).items (f ∷ env)) × GivesKinds S.policies ks (outputs (answers S q).items (shown_frame f ∷ env))) frames

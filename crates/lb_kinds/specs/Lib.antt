@@ -3,3 +3,5 @@ pub mod Days
 pub mod Agreement
 pub mod Standing
 pub mod Laws
+pub mod Begins
+pub mod Compared
