@@ -30,6 +30,7 @@ no_policy E p names unfolded = go (policy_named E p) refl
   where
     key : (q : List ℕ) → IsFolded q → is_key_name q ≡ true
     key q h = rw (h.0, h.1, (bytes_eq-Decides q q).1 refl) refl
+
     go : (o : Option Policy) → policy_named E p ≡ o → o ≡ None
     go None e = refl
     go (Some q) e =

@@ -217,8 +217,10 @@ same_record J K S T k h r u e = go (S.stamp k) refl
   where
     replayed : S.stamp k ≤ length J
     replayed = let p = bounded 0 first J S k h (omega arith) in omega (arith, p)
+
     of_S : IsStamped k S
     of_S = all_stamped 0 first J S k h (first_stamped k u)
+
     go : (n : ℕ) → S.stamp k ≡ n → SameAt k S T
     go zero f = absent k S T u (not_there k S of_S f) (not_there k T (all_stamped (length J) S K T k r of_S) (e ∙ f))
     go (suc n) f = still (length J) S K T k r replayed (omega (arith, f)) e

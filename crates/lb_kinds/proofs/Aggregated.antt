@@ -88,7 +88,7 @@ module _ (policies : Policies) where
   rows_give k step m env h s [] g e = g
   rows_give k step m env h s (r ∷ rows) g e =
       value_then policies k k (m.value (row_frame r ∷ env)) (λ x. step s x >>= λ next. over_rows step next m rows env) e.0
-        (λ v w. value_then policies k k (step s v) (λ next. over_rows step next m rows env) (h s v g w) (λ next i. rows_give k step m env h next rows i e.1))
+      (λ v w. value_then policies k k (step s v) (λ next. over_rows step next m rows env) (h s v g w) (λ next i. rows_give k step m env h next rows i e.1))
 
   each_within : (j k : Kind) (m : Means) (env : Env) (rows : List JoinedRow) → Within policies j k → EachGives j m env rows → EachGives k m env rows
   each_within j k m env [] w e = tt

@@ -35,13 +35,14 @@ target_holds C S P tab e p h = record {
 }
 
 pub rows_hold : RowsHold
-rows_hold C S P home env h tabs row g =
-    (record { scopes = tabs ∷ h.scopes; sight = inner_sight P.sight h.scopes tabs h.sight; frames = (record { row = inl g; group = tt }, h.frames) },
-     λ all. record {
-       scopes = tabs ∷ h.scopes;
-       sight = record { seen = (inner_sight P.sight h.scopes tabs h.sight).seen; own = (inner_sight P.sight h.scopes tabs h.sight).own; level = (inner_sight P.sight h.scopes tabs h.sight).level };
-       frames = (record { row = inl g; group = tt }, h.frames);
-     })
+rows_hold C S P home env h tabs row g = (
+  record { scopes = tabs ∷ h.scopes; sight = inner_sight P.sight h.scopes tabs h.sight; frames = (record { row = inl g; group = tt }, h.frames) },
+  λ all. record {
+    scopes = tabs ∷ h.scopes;
+    sight = record { seen = (inner_sight P.sight h.scopes tabs h.sight).seen; own = (inner_sight P.sight h.scopes tabs h.sight).own; level = (inner_sight P.sight h.scopes tabs h.sight).level };
+    frames = (record { row = inl g; group = tt }, h.frames);
+  },
+)
 
 pub joined_rows_fit : JoinedRowsFit
 unfolding typed_chains chains

@@ -147,8 +147,8 @@ module _ (C : Catalogue) (S : Setting) (agrees : AgreesOn C S) (P : Place) (home
     groups_stood [] rows bare h = (stood (record { row = []; group = rows }) (record { row = inr (refl, bare refl); group = h }), tt)
     groups_stood (c ∷ columns) rows bare h =
         all_then (λ x. JoinedFits C S tabs x.row) Stood (each (map (queries.keyed (c ∷ columns) env) rows)) (λ xs. Ok (map queries.group_frame (queries.gathered xs)))
-          (keys_all (JoinedFits C S tabs) (c ∷ columns) env rows h)
-          (λ xs i. all_mapped (GroupHas (JoinedFits C S tabs)) Stood queries.group_frame (queries.gathered xs) group_stood (gathered_all (JoinedFits C S tabs) xs i))
+        (keys_all (JoinedFits C S tabs) (c ∷ columns) env rows h)
+        (λ xs i. all_mapped (GroupHas (JoinedFits C S tabs)) Stood queries.group_frame (queries.gathered xs) group_stood (gathered_all (JoinedFits C S tabs) xs i))
 
     framed_stood : (c : Bool) (columns : List Column) (having : Option meant.Says) (items : List meant.Shows) (from : List meant.Chains) (filter : Option meant.Says) (distinct : Bool) (rows : List JoinedRow)
         → (c ≡ true → columns ≡ [] → IsBarred shown_groups home level) → AllByRecursion (JoinedFits C S tabs) rows
@@ -175,29 +175,29 @@ module _ (C : Catalogue) (S : Setting) (agrees : AgreesOn C S) (P : Place) (home
   bare_step : (x : Written layers.Query-F) (R : typed.Role) → x.group ≡ [] → queries.is_grouped R.total (VLayer C S x) ≡ true → has_groups (NLayer C S x) R ≡ true
   bare_step x R e h =
       subst (λ cs. (is_listed cs || (is_some (NLayer C S x).having || (R.total || list_any (λ i. i.total) (NLayer C S x).items))) ≡ true) (sym e)
-        (reordered R.total (list_any (λ i. i.total) (NLayer C S x).items) (list_any (λ i. i.total) (VLayer C S x).items) (given (VLayer C S x).having) (is_some (NLayer C S x).having)
-          (items_total C S x.items) (same_having x.having)
-          (subst (λ cs. (R.total || (list_any (λ i. i.total) (VLayer C S x).items || (any_listed cs || given (VLayer C S x).having))) ≡ true) e h))
+      (reordered R.total (list_any (λ i. i.total) (NLayer C S x).items) (list_any (λ i. i.total) (VLayer C S x).items) (given (VLayer C S x).having) (is_some (NLayer C S x).having)
+      (items_total C S x.items) (same_having x.having)
+      (subst (λ cs. (R.total || (list_any (λ i. i.total) (VLayer C S x).items || (any_listed cs || given (VLayer C S x).having))) ≡ true) e h))
 
   bare_query : (x : Written layers.Query-F) (R : typed.Role) → queries.is_grouped R.total (VLayer C S x) ≡ true → x.group ≡ []
       → IsBarred (groups_of C (NLayer C S x) R P) home level
   bare_query x R h e =
       bare_group (has_groups (NLayer C S x) R) (group_of C x.group P (tabs_of C S x)) P.groups home P.sight level (bare_step x R e h) (ap level_in holds.sight.seen)
-        (ap (λ cs. is_empty (group_of C cs P (tabs_of C S x)).columns) e) (ap level_in holds.sight.seen) below
+      (ap (λ cs. is_empty (group_of C cs P (tabs_of C S x)).columns) e) (ap level_in holds.sight.seen) below
 
   layer_stood : (x : Written layers.Query-F) (R : typed.Role) → GivesAll (λ f. HoldsFor C S (shown_place P (tabs_of C S x) (groups_of C (NLayer C S x) R P)) home (f ∷ env)) (queries.query_frames (VLayer C S x) R.total env)
   layer_stood x R =
       any_then (Stood (tabs_of C S x) (has_groups (NLayer C S x) R) (group_of C x.group P (tabs_of C S x))) (each (flat_map (λ c. c.seen) (VLayer C S x).from)) (λ seen. queries.kept_rows (VLayer C S x).filter env (joined (VLayer C S x).from env) >>= λ rows. queries.framed (queries.is_grouped R.total (VLayer C S x)) (VLayer C S x) env rows)
-        (λ seen. all_then (JoinedFits C S (tabs_of C S x)) (Stood (tabs_of C S x) (has_groups (NLayer C S x) R) (group_of C x.group P (tabs_of C S x))) (queries.kept_rows (VLayer C S x).filter env (joined (VLayer C S x).from env)) (λ rows. queries.framed (queries.is_grouped R.total (VLayer C S x)) (VLayer C S x) env rows)
-          (kept_all (JoinedFits C S (tabs_of C S x)) (λ row. queries.where_true (VLayer C S x).filter (row_frame row ∷ env)) (joined (VLayer C S x).from env) queries.kept_limit
-            (joined_fits C S agrees (map typed.chain_marked (map (chain_of typed.typing (typed_steps C)) x.from)) (VLayer C S x).from env (chains_fit C S agrees x.from)))
-          (λ rows h. framed_stood (tabs_of C S x) (has_groups (NLayer C S x) R) (group_of C x.group P (tabs_of C S x)) (queries.is_grouped R.total (VLayer C S x)) x.group (VLayer C S x).having (VLayer C S x).items (VLayer C S x).from (VLayer C S x).filter x.distinct rows (bare_query x R) h))
+      (λ seen. all_then (JoinedFits C S (tabs_of C S x)) (Stood (tabs_of C S x) (has_groups (NLayer C S x) R) (group_of C x.group P (tabs_of C S x))) (queries.kept_rows (VLayer C S x).filter env (joined (VLayer C S x).from env)) (λ rows. queries.framed (queries.is_grouped R.total (VLayer C S x)) (VLayer C S x) env rows)
+      (kept_all (JoinedFits C S (tabs_of C S x)) (λ row. queries.where_true (VLayer C S x).filter (row_frame row ∷ env)) (joined (VLayer C S x).from env) queries.kept_limit
+      (joined_fits C S agrees (map typed.chain_marked (map (chain_of typed.typing (typed_steps C)) x.from)) (VLayer C S x).from env (chains_fit C S agrees x.from)))
+      (λ rows h. framed_stood (tabs_of C S x) (has_groups (NLayer C S x) R) (group_of C x.group P (tabs_of C S x)) (queries.is_grouped R.total (VLayer C S x)) x.group (VLayer C S x).having (VLayer C S x).items (VLayer C S x).from (VLayer C S x).filter x.distinct rows (bare_query x R) h))
 
   pub query_stood : (q : Query) (R : typed.Role) → GivesAll (λ f. HoldsFor C S ((query_of typed.typing (typed_steps C) q).shown R P) home (f ∷ env)) ((query_of meant.meaning (steps S) q).frames R.total env)
   query_stood q R =
       subst (λ m. GivesAll (λ f. HoldsFor C S (m.shown R P) home (f ∷ env)) ((query_of meant.meaning (steps S) q).frames R.total env)) (sym (query_out typed.typing (typed_steps C) q))
-        (subst (λ w. GivesAll (λ f. HoldsFor C S ((typed_query_step C (NLayer C S (out-Query q))).shown R P) home (f ∷ env)) (w.frames R.total env)) (sym (query_out meant.meaning (steps S) q))
-          (layer_stood (out-Query q) R))
+      (subst (λ w. GivesAll (λ f. HoldsFor C S ((typed_query_step C (NLayer C S (out-Query q))).shown R P) home (f ∷ env)) (w.frames R.total env)) (sym (query_out meant.meaning (steps S) q))
+      (layer_stood (out-Query q) R))
 
   each_shown : (Q : Place) (frames : List Frame) → AllByRecursion (λ f. HoldsFor C S Q home (f ∷ env)) frames → AllByRecursion (λ f. HoldsFor C S Q home (f ∷ env) × HoldsFor C S Q home (shown_frame f ∷ env)) frames
   each_shown Q [] h = tt
@@ -207,4 +207,4 @@ pub frames_hold : FramesHoldRows
 unfolding typed_query answers
 frames_hold C S agrees P home env holds below q R frames e =
     each_shown C S agrees P home env holds below ((query_of typed.typing (typed_steps C) q).shown R P) frames
-      (subst (λ x. GivesAll (λ f. HoldsFor C S ((query_of typed.typing (typed_steps C) q).shown R P) home (f ∷ env)) x) e (query_stood C S agrees P home env holds below q R))
+    (subst (λ x. GivesAll (λ f. HoldsFor C S ((query_of typed.typing (typed_steps C) q).shown R P) home (f ∷ env)) x) e (query_stood C S agrees P home env holds below q R))

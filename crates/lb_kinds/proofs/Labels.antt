@@ -54,7 +54,7 @@ module _ (p : ℕ → Bool) where
   bits_from a zero s = rw add-zero (le_refl (s + 2 ^ a))
   bits_from a (suc n) s =
       bits_step (p a) s a (filter p (range_with_len (a + 1) n)) (2 ^ (a + suc n))
-        (λ t. subst (λ k. total t (map bit_of (filter p (range_with_len (a + 1) n))) + 2 ^ (a + 1) ≤ t + 2 ^ k) (omega arith) (bits_from (a + 1) n t))
+      (λ t. subst (λ k. total t (map bit_of (filter p (range_with_len (a + 1) n))) + 2 ^ (a + 1) ≤ t + 2 ^ k) (omega arith) (bits_from (a + 1) n t))
 
   first_step : (b : Bool) (a n e : ℕ) (es xs : List ℕ) → (xs ≡ e ∷ es → e + 1 ≤ (a + 1) + n) → cond b (a ∷ xs) xs ≡ e ∷ es → e + 1 ≤ a + suc n
   first_step true a n e es xs rec h = let q : a ≡ e = ap (head_or a) h in omega arith
@@ -93,7 +93,7 @@ read_step c shape part (Some place) rest spelled e h = absurd (no_err {A = List 
 read_step c shape part None (Err at) spelled e h = absurd (no_err {A = List (List ℕ)} at spelled e)
 read_step c shape part None (Ok more) spelled e h =
     subst (λ l. IsLabel (c ∷ shape) (parts_of (c ∷ shape) l)) (same_ok {B = ℕ} (elements_named c part ∷ more) spelled e)
-      (part_fits c.kind (is_named c (named_in part)) (length c.elements), h more refl)
+    (part_fits c.kind (is_named c (named_in part)) (length c.elements), h more refl)
 
 read_fits : (end : ℕ) (shape : List Definition) (at : ℕ) (parts : List (List ℕ)) (spelled : List (List ℕ)) → read_parts end shape at parts ≡ Ok spelled → IsLabel shape (parts_of shape spelled)
 read_fits end [] at parts spelled e = tt

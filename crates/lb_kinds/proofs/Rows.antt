@@ -113,7 +113,7 @@ module _ (C : Catalogue) (S : Setting) (agrees : AgreesOn C S) where
   matches_fit : (tabs : List Tab) (row : JoinedRow) (tab : Tab) (on : meant.Says) (env : Env) → Fits tabs row → AllByRecursion (OkFits (tabs ++ tab ∷ [])) (matches on env row (pieces (S.sources tab.table) tab))
   matches_fit tabs row tab on env h =
       all_flat (PieceFits C S tab) (OkFits (tabs ++ tab ∷ [])) (λ p. if_true (beside row p) (on.test (row_frame (beside row p) ∷ env))) (pieces (S.sources tab.table) tab)
-        (λ p g. true_fits (tabs ++ tab ∷ []) (beside row p) (on.test (row_frame (beside row p) ∷ env)) (beside_fits tabs row tab p h g)) (pieces_fit tab)
+      (λ p g. true_fits (tabs ++ tab ∷ []) (beside row p) (on.test (row_frame (beside row p) ∷ env)) (beside_fits tabs row tab p h g)) (pieces_fit tab)
 
   or_nulls_fit : (tabs : List Tab) (nulls : JoinedRow) (rows : List (Evaluated JoinedRow)) → Fits tabs nulls → AllByRecursion (OkFits tabs) rows → AllByRecursion (OkFits tabs) (or_nulls nulls rows)
   or_nulls_fit tabs nulls [] g h = (g, tt)
@@ -129,8 +129,8 @@ module _ (C : Catalogue) (S : Setting) (agrees : AgreesOn C S) where
   pub left_law : (tab : Tab) (on : meant.Says) → JoinLaw tab (left (S.sources tab.table) tab on)
   left_law tab on tabs env row h =
       or_nulls_fit (tabs ++ tab ∷ []) (beside row (null_piece (S.sources tab.table) tab)) (matches on env row (pieces (S.sources tab.table) tab))
-        (beside_fits tabs row tab (null_piece (S.sources tab.table) tab) h (piece_fits tab (map (λ c. values.Null) (S.sources tab.table).columns) (nulls_fit S.policies (columns_of C tab) (S.sources tab.table).columns (agrees.tables tab.table).columns)))
-        (matches_fit tabs row tab on env h)
+      (beside_fits tabs row tab (null_piece (S.sources tab.table) tab) h (piece_fits tab (map (λ c. values.Null) (S.sources tab.table).columns) (nulls_fit S.policies (columns_of C tab) (S.sources tab.table).columns (agrees.tables tab.table).columns)))
+      (matches_fit tabs row tab on env h)
 
   pub cross_law : (tab : Tab) → JoinLaw tab (cross (S.sources tab.table) tab)
   cross_law tab tabs env row h = all_mapped (PieceFits C S tab) (OkFits (tabs ++ tab ∷ [])) (λ p. Ok (beside row p)) (pieces (S.sources tab.table) tab) (λ p g. beside_fits tabs row tab p h g) (pieces_fit tab)
@@ -155,7 +155,7 @@ module _ (C : Catalogue) (S : Setting) (agrees : AgreesOn C S) where
   joins_fit (m ∷ ms) [] env tabs rows h g = absurd h
   joins_fit (m ∷ ms) (w ∷ ws) env tabs rows h g =
       subst (λ t. AllByRecursion (OkFits t) (fold (joined_with env) (joined_with env rows w) ws)) (append_assoc tabs (m.tab ∷ []) (map (λ j. j.tab) ms))
-        (joins_fit ms ws env (tabs ++ m.tab ∷ []) (joined_with env rows w) h.1 (continued_fits tabs (tabs ++ m.tab ∷ []) (w.rows env) (h.0 tabs env) rows g))
+      (joins_fit ms ws env (tabs ++ m.tab ∷ []) (joined_with env rows w) h.1 (continued_fits tabs (tabs ++ m.tab ∷ []) (w.rows env) (h.0 tabs env) rows g))
 
   -- a chain gives rows with a row of each of its tables
   abbrev pub ChainLaw : ChainMarks → meant.Chains → Type 0
@@ -164,7 +164,7 @@ module _ (C : Catalogue) (S : Setting) (agrees : AgreesOn C S) where
   pub chain_law : (first : Tab) (ms : List JoinMarks) (ws : List meant.Joins) → JoinsLaw ms ws → ChainLaw (record { first = first; joins = ms }) (chain (S.sources first.table) first ws)
   chain_law first ms ws h env =
       joins_fit ms ws env (first ∷ []) (map (λ p. Ok (p ∷ [])) (pieces (S.sources first.table) first)) h
-        (all_mapped (PieceFits C S first) (OkFits (first ∷ [])) (λ p. Ok (p ∷ [])) (pieces (S.sources first.table) first) (λ p g. (g, tt)) (pieces_fit first))
+      (all_mapped (PieceFits C S first) (OkFits (first ∷ [])) (λ p. Ok (p ∷ [])) (pieces (S.sources first.table) first) (λ p g. (g, tt)) (pieces_fit first))
 
   -- ---- FROM
 
@@ -178,8 +178,8 @@ module _ (C : Catalogue) (S : Setting) (agrees : AgreesOn C S) where
   joined_fits (m ∷ ms) [] env h = absurd h
   joined_fits (m ∷ ms) (w ∷ ws) env h =
       continued_fits (tables_of_chain m) (tables_of (m ∷ ms)) (λ row. map (in_front row) (joined ws env))
-        (λ row g. all_mapped (OkFits (tables_of ms)) (OkFits (tables_of (m ∷ ms))) (in_front row) (joined ws env) (front_fits (tables_of_chain m) (tables_of ms) row g) (joined_fits ms ws env h.1))
-        (w.rows env) (h.0 env)
+      (λ row g. all_mapped (OkFits (tables_of ms)) (OkFits (tables_of (m ∷ ms))) (in_front row) (joined ws env) (front_fits (tables_of_chain m) (tables_of ms) row g) (joined_fits ms ws env h.1))
+      (w.rows env) (h.0 env)
 
 -- ---- WHERE, GROUP BY and HAVING leave rows as they are
 

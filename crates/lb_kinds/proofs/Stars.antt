@@ -79,14 +79,14 @@ module _ (C : Catalogue) (S : Setting) (agrees : AgreesOn C S) where
   columns_zip t level (tab ∷ tabs) [] h = absurd h
   columns_zip t level (tab ∷ tabs) (p ∷ row) h =
       subst (λ n. Each (column_kinds C (items_by t (map (at_level level) (tab ∷ tabs)))) (flat_map (λ q. q.cells) (cond (t n) (p ∷ rows_by t row) (rows_by t row)))) (sym h.0.correlation)
-        (zip_step (t (correlation tab)) (at_level level tab) (items_by t (map (at_level level) tabs)) p (rows_by t row) h.0 (columns_zip t level tabs row h.1))
+      (zip_step (t (correlation tab)) (at_level level tab) (items_by t (map (at_level level) tabs)) p (rows_by t row) h.0 (columns_zip t level tabs row h.1))
 
   -- all columns of items of a level that is not asked for are free only where there are none
   no_fields : (P : Place) (s : Seen) (fields : List Field) → P.within ≡ false → IsBarred P.groups None s.level → list_all (λ f. is_free P (spot_of s f.name)) fields ≡ true → map (λ f. f.kind) fields ≡ []
   no_fields P s [] w b e = refl
   no_fields P s (f ∷ fields) w b e =
       absurd (grouped C S agrees (spot_of s f.name) P.groups
-        (free_outside C S agrees P.within (spot_of s f.name) P.groups w (left_true (is_free P (spot_of s f.name)) (list_all (λ f. is_free P (spot_of s f.name)) fields) e)) b)
+      (free_outside C S agrees P.within (spot_of s f.name) P.groups w (left_true (is_free P (spot_of s f.name)) (list_all (λ f. is_free P (spot_of s f.name)) fields) e)) b)
 
   no_kinds_step : (P : Place) (c : Bool) (level : ℕ) (tab : Tab) (items : List Seen) → P.within ≡ false → IsBarred P.groups None level → all_free P C (cond c (at_level level tab ∷ items) items) ≡ true
       → (all_free P C items ≡ true → column_kinds C items ≡ []) → column_kinds C (cond c (at_level level tab ∷ items) items) ≡ []
@@ -104,7 +104,7 @@ module _ (C : Catalogue) (S : Setting) (agrees : AgreesOn C S) where
   star_frame P t tabs outer f w (inl h) e = columns_zip t (level_in outer) tabs f.row h
   star_frame P t tabs outer f w (inr h) e =
       subst (λ row. Each (column_kinds C (items_by t (items_in outer tabs))) (flat_map (λ p. p.cells) (rows_by t row))) (sym h.0)
-        (subst (λ ks. Each ks []) (sym (no_kinds P t (level_in outer) tabs w h.1 e)) tt)
+      (subst (λ ks. Each ks []) (sym (no_kinds P t (level_in outer) tabs w h.1 e)) tt)
 
   star_step : (P : Place) (t : Name → Bool) (scopes : Scopes) (env : Env) → P.within ≡ false → FramesFit C S (IsBarred P.groups None) scopes env → all_free P C (items_by t (own_in scopes)) ≡ true
       → Each (column_kinds C (items_by t (own_in scopes))) (flat_map (λ p. p.cells) (rows_by t (own_row env)))
@@ -117,7 +117,7 @@ module _ (C : Catalogue) (S : Setting) (agrees : AgreesOn C S) where
       → Each (column_kinds C (items_by t P.sight.own)) (flat_map (λ p. p.cells) (rows_by t (own_row env)))
   star_gives P None env t items x holds w e =
       subst (λ own. Each (column_kinds C (items_by t own)) (flat_map (λ p. p.cells) (rows_by t (own_row env)))) (sym holds.sight.own)
-        (star_step P t holds.scopes env w holds.frames (subst (λ own. all_free P C (items_by t own) ≡ true) holds.sight.own e))
+      (star_step P t holds.scopes env w holds.frames (subst (λ own. all_free P C (items_by t own) ≡ true) holds.sight.own e))
   star_gives P (Some home) env t items x holds w e = absurd (no_false w)
 
   all_kept : (items : List Seen) → items_by (λ n. true) items ≡ items
@@ -145,8 +145,8 @@ module _ (C : Catalogue) (S : Setting) (agrees : AgreesOn C S) where
   by_item : (x : Written layers.Item-F) → ItemLaw (typed_item_step C (item_layer typed.typing (typed_steps C) x)) (item_step (item_layer meant.meaning (steps S) x)) (in_item_layer (item_layer writing day_steps x)) → GItem (roll-Item x)
   by_item x h =
       subst (λ m. ItemLaw m (VI (roll-Item x)) (DI (roll-Item x))) (sym (item_roll typed.typing (typed_steps C) x))
-        (subst (λ w. ItemLaw (typed_item_step C (item_layer typed.typing (typed_steps C) x)) w (DI (roll-Item x))) (sym (item_roll meant.meaning (steps S) x))
-          (subst (λ d. ItemLaw (typed_item_step C (item_layer typed.typing (typed_steps C) x)) (item_step (item_layer meant.meaning (steps S) x)) d) (sym (item_roll writing day_steps x)) h))
+      (subst (λ w. ItemLaw (typed_item_step C (item_layer typed.typing (typed_steps C) x)) w (DI (roll-Item x))) (sym (item_roll meant.meaning (steps S) x))
+      (subst (λ d. ItemLaw (typed_item_step C (item_layer typed.typing (typed_steps C) x)) (item_step (item_layer meant.meaning (steps S) x)) d) (sym (item_roll writing day_steps x)) h))
 
   of_kinds : (is ks : List Kind) (m j : ℕ) (xs : List (Evaluated Value)) → ◌≡◌ {A = List Kind × ℕ} (is, m) (ks, j) → Each is xs → Each ks xs
   of_kinds is ks m j xs e h = subst (λ z. Each z xs) (ap (λ y. y.0) e) h
@@ -155,22 +155,22 @@ module _ (C : Catalogue) (S : Setting) (agrees : AgreesOn C S) where
   star_law P W items n j ks xs h e =
       let b : (star_fits C items W P ≡ true) × ◌≡◌ {A = List Kind × ℕ} (column_kinds C items, next n) (ks, j) = is_if (star_fits C items W P) n (column_kinds C items, next n) (ks, j) e in
       of_kinds (column_kinds C items) ks (next n) j xs b.1
-        (h (left_true (all_free P C items) (fit W (column_kinds C items)) (right_true (not (P.stored && (W.one || W.grouped))) (all_free P C items && fit W (column_kinds C items)) b.0)))
+      (h (left_true (all_free P C items) (fit W (column_kinds C items)) (right_true (not (P.stored && (W.one || W.grouped))) (all_free P C items && fit W (column_kinds C items)) b.0)))
 
   item_good : (x : Written layers.Item-F) → GItem (roll-Item x)
   item_good layers.Item-F.Everything = by_item layers.Item-F.Everything
       (λ P home env holds w d W n j ks e. star_law P W P.sight.own n j ks (flat_map (λ p. p.cells) (rows_by (λ n. true) (own_row env)))
-        (λ free. subst (λ own. Each (column_kinds C own) (flat_map (λ p. p.cells) (rows_by (λ n. true) (own_row env)))) (all_kept P.sight.own)
-          (star_gives P home env (λ n. true) P.sight.own None holds w (subst (λ own. all_free P C own ≡ true) (sym (all_kept P.sight.own)) free))) e)
+      (λ free. subst (λ own. Each (column_kinds C own) (flat_map (λ p. p.cells) (rows_by (λ n. true) (own_row env)))) (all_kept P.sight.own)
+      (star_gives P home env (λ n. true) P.sight.own None holds w (subst (λ own. all_free P C own ≡ true) (sym (all_kept P.sight.own)) free))) e)
   item_good (layers.Item-F.AllOf x) = by_item (layers.Item-F.AllOf x)
       (λ P home env holds w d W n j ks e. star_law P W (called x P.sight.own) n j ks (flat_map (λ p. p.cells) (rows_by (λ n. bytes_eq n x) (own_row env)))
-        (λ free. star_gives P home env (λ n. bytes_eq n x) P.sight.own (Some x) holds w free) e)
+      (λ free. star_gives P home env (λ n. bytes_eq n x) P.sight.own (Some x) holds w free) e)
   item_good (layers.Item-F.Value x name) = by_item (layers.Item-F.Value x name)
       (λ P home env holds w d W n j ks e.
-        let m : typed.Means = expr_of typed.typing (typed_steps C) x in
-        let b : Bound (m.kind P n) (λ y. only_if (fit W (y.0 ∷ [])) n (y.0 ∷ [], y.1)) (ks, j) = bound (m.kind P n) (λ y. only_if (fit W (y.0 ∷ [])) n (y.0 ∷ [], y.1)) (ks, j) e in
-        of_kinds (b.0.0 ∷ []) ks b.0.1 j ((expr_of meant.meaning (steps S) x).value env ∷ []) (is_if (fit W (b.0.0 ∷ [])) n (b.0.0 ∷ [], b.0.1) (ks, j) b.2).1
-          (all_good C S agrees x P home env holds w d n b.0.1 b.0.0 b.1, tt))
+      let m : typed.Means = expr_of typed.typing (typed_steps C) x in
+      let b : Bound (m.kind P n) (λ y. only_if (fit W (y.0 ∷ [])) n (y.0 ∷ [], y.1)) (ks, j) = bound (m.kind P n) (λ y. only_if (fit W (y.0 ∷ [])) n (y.0 ∷ [], y.1)) (ks, j) e in
+      of_kinds (b.0.0 ∷ []) ks b.0.1 j ((expr_of meant.meaning (steps S) x).value env ∷ []) (is_if (fit W (b.0.0 ∷ [])) n (b.0.0 ∷ [], b.0.1) (ks, j) b.2).1
+      (all_good C S agrees x P home env holds w d n b.0.1 b.0.0 b.1, tt))
 
   -- nothing is claimed of the other nodes
   abbrev Any : {X : Type 0} → X → Type 0

@@ -14,14 +14,14 @@ pub fn meaning_has_a_frame()
     ensures query { QueryFrame }
 {}
 
-/// What a query gives depends on the records and the rows of the tables and policies that it mentions and that the permissions
-/// and masks of these tables mention. In one catalogue its answer depends on the rows of those tables alone.
+/// What a query gives depends on the records and the rows of the tables and policies that it mentions, on the policies of these
+/// tables, and on what their permissions and masks mention. In one catalogue its answer depends on the rows of those tables alone.
 pub fn queries_have_a_frame()
     ensures rows { RowsFrame }
     ensures answer { AnswerFrame }
 {}
 
-/// A query has the same answer in two worlds of which the session sees the same.
+/// A query has the same answer in two worlds of which the session sees the same, and whose permissions and masks read the same.
 pub fn two_worlds_answer_alike()
     ensures { TwoWorlds }
 {}
