@@ -37,7 +37,7 @@ use Rattle.lb_answer.specs.Bases.{label_failure, label_held, masked_among, maske
 use Rattle.lb_answer.specs.Before.{insert_refused, update_refused, delete_refused}
 use Rattle.lb_answer.specs.Checks.{new_row}
 use Rattle.lb_answer.specs.OrRefused.{◌>>=◌, all_made}
-use Rattle.lb_answer.specs.Writes.{Written, updated, deleted, inserted, is_complete}
+use Rattle.lb_answer.specs.Writes.{Written, updated, deleted, inserted, is_unique, is_within_cells}
 use Rattle.lb_answer.specs.Laws.{StatementFrame}
 
 module _ (C : Cat) (c : Cred) (T U : Tables) (day : ℤ) where
@@ -169,7 +169,8 @@ module _ (C : Cat) (c : Cred) (T U : Tables) (day : ℤ) where
   insert_alike : (n : Insert) (source : InsertSource) (t : Table) → SameMention C C T U (table n.table) → Stored t → Alike (in_source source) → insert_into C c T day n source t ≡ insert_into C c U day n source t
   insert_alike n (sources.Rows rows) t target stored k = λ i.
       all_made (rows_alike t stored (places_given t n.columns) rows k i) >>= λ news.
-      is_complete t (target.0.1 i ++ news) >>= λ complete.
+      is_unique t (target.0.1 i ++ news) >>= λ unique.
+      is_within_cells t (target.0.1 i ++ news) >>= λ within.
       Ok (record { count = Rattle.std.specs.Prelude.length news; rows = target.0.1 i ++ news })
   insert_alike n (sources.Query s) t target stored k = λ i. inserted (policy_of_table C t)
       (record {

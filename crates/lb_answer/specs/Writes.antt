@@ -20,12 +20,13 @@ pub record Written : Type 0 where
 abbrev pub cell_limit : ℕ
 cell_limit = 131_072
 
--- after all rows: DuplicateKey over all rows of the table, visible or not, and then Limit(CELLS)
-abbrev pub is_complete : Table → List (List Value) → OrRefused Passed
-is_complete t rows =
-    if has_double t.key rows then Err (refusals.DuplicateKey t.name) else
-    if nat_lt cell_limit (length rows * length t.columns) then Err (refusals.Limit limits.Cells cell_limit) else
-    Ok tt
+-- after all rows: DuplicateKey, where two rows of the table have one key, visible or not
+abbrev pub is_unique : Table → List (List Value) → OrRefused Passed
+is_unique t rows = if has_double t.key rows then Err (refusals.DuplicateKey t.name) else Ok tt
+
+-- and then Limit(CELLS), which only an INSERT can go past
+abbrev pub is_within_cells : Table → List (List Value) → OrRefused Passed
+is_within_cells t rows = if nat_lt cell_limit (length rows * length t.columns) then Err (refusals.Limit limits.Cells cell_limit) else Ok tt
 
 module _ (p : Option Policy) (b : Basis (List Value)) (t : Table) where
   -- a candidate's new row stands in the place of its old one, and each other row stays as it was
@@ -37,7 +38,7 @@ module _ (p : Option Policy) (b : Basis (List Value)) (t : Table) where
   updated places rows = do
     marks ← or_refused (candidates b rows)
     news ← all_made (map (renewed places) marks)
-    complete ← is_complete t news
+    unique ← is_unique t news
     Ok (record { count = length (taken_rows marks); rows = news })
 
   -- DELETE, which asks of each candidate that it can be written
@@ -53,5 +54,6 @@ module _ {S : Type 0} (p : Option Policy) (b : Basis S) (t : Table) where
   inserted places sources rows = do
     ss ← or_refused sources
     news ← all_made (map (new_row p b t places None) ss)
-    complete ← is_complete t (rows ++ news)
+    unique ← is_unique t (rows ++ news)
+    within ← is_within_cells t (rows ++ news)
     Ok (record { count = length news; rows = rows ++ news })

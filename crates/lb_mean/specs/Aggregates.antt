@@ -14,7 +14,7 @@ use Rattle.lb_tree.specs.declared.query.Aggregate.TheVariants as aggregates
 use Rattle.lb_mean.specs.Setting.{JoinedRow, Env, row_frame}
 use Rattle.lb_mean.specs.Meant.{Means}
 
--- Row by row: the argument, with the row in the place of the group, and then one step of the aggregate.
+-- Row by row: the argument, with the row's frame in the place of the group's, and then one step of the aggregate.
 abbrev pub over_rows : {A : Type 0} → (A → Value → Evaluated A) → A → Means → List JoinedRow → Env → Evaluated A
 over_rows step so_far m [] env = Ok so_far
 over_rows step so_far m (r ∷ rows) env = do

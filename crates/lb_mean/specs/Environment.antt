@@ -19,7 +19,7 @@ use Rattle.lb_mean.specs.Labels.{label_of_text, label_by_name, label_to_char}
 abbrev pub is_called : List ℕ → SeenColumn → Bool
 is_called n c = bytes_eq c.name n
 
--- a column belongs to the table with the correlation name that is written before it, and a bare one to a table with a column of its name
+-- a column belongs to the table with the correlation name that is written before the column, and a bare one to a table that has a column of the column's name
 abbrev pub is_in : Option (List ℕ) → List ℕ → Piece → Bool
 is_in (Some correlation) n p = bytes_eq p.correlation correlation
 is_in None n p = list_any (is_called n) p.columns

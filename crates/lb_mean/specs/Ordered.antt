@@ -99,7 +99,7 @@ abbrev pub keys_order : List Sorter → List Value → List Value → Ordering
 keys_order (k ∷ ks) (x ∷ xs) (y ∷ ys) = ordering_then (directed k.direction (order_of x y)) (keys_order ks xs ys)
 keys_order _ _ _ = Equal
 
--- what stands before the others goes in front of the first that isn't less
+-- x in front of the first of these that isn't less than x
 abbrev pub insert : {A : Type 0} → (A → A → Bool) → A → List A → List A
 insert less x [] = x ∷ []
 insert less x (y ∷ ys) = if less y x then y ∷ insert less x ys else x ∷ y ∷ ys

@@ -33,7 +33,7 @@ abbrev pub where_true : Option Says → Env → Evaluated Bool
 where_true None env = Ok true
 where_true (Some c) env = are_true (sure_first c.parts) env
 
--- a row is kept, where so many more may be kept
+-- one row more is kept before the rest, where so many may be kept in all; past that it is Limit(KEPT)
 abbrev pub one_more : {A : Type 0} → A → (ℕ → Evaluated (List A)) → ℕ → Evaluated (List A)
 one_more x rest zero = Err Kept
 one_more x rest (suc n) = rest n >>= λ xs. Ok (x ∷ xs)

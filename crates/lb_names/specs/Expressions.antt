@@ -22,7 +22,7 @@ use Rattle.lb_names.specs.Parts.{kind_of_all, kind_with, kind_of_any, kind_of_re
 abbrev pub one_kind : ℕ → Common × ℕ → Typed Kind
 one_kind at x = one_of at x.1 x.0
 
--- and it is no label and not NULL
+-- the node of that number has the kind that its parts have in common, which is no label's and not NULL's
 abbrev pub plain_kind : ℕ → Common × ℕ → Typed Kind
 plain_kind at x = if is_plain x.0 then one_kind at x else Err at
 
@@ -65,7 +65,7 @@ counts_rows _ = false
 unfoldable pub case_kind : List Arms → Option Means → Place → ℕ → Typed Kind
 case_kind arms otherwise P at = kind_of_results arms otherwise P (next at) >>= plain_kind at
 
--- a CASE with an operand: operands of one kind, and results of one kind
+-- the kind of the results, where the operands have one kind in common
 abbrev pub plain_results : ℕ → Common → Common × ℕ → Typed Kind
 plain_results at operands y = if is_plain operands then plain_kind at y else Err at
 

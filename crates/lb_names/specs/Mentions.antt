@@ -113,7 +113,7 @@ in_signed_layer x = x.part
 abbrev pub naming_steps : Steps naming
 naming_steps = record { cond = in_cond_layer; expr = in_expr_layer; item = in_item_layer; join = in_join_layer; arm = in_arm_layer; chain = in_chain_layer; choice = in_choice_layer; query = in_query_layer; signed = in_signed_layer }
 
--- what a condition, an expression and a query name
+-- what a condition mentions
 unfoldable pub in_cond : Cond → Mentions
 in_cond = cond_of naming naming_steps
 

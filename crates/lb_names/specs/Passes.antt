@@ -102,7 +102,7 @@ abbrev pub is_at : ℕ → Resolved → Bool
 is_at level (Ok x) = x.item.level == level
 is_at level (Err n) = false
 
--- a `*` in an aggregate belongs to a query inside it
+-- a name in an aggregate belongs to the query of that level; a `*` never does, since it belongs to a query inside the aggregate
 abbrev pub is_own : Catalogue → ℕ → Mark → Bool
 is_own C level (column seen c) = is_at level (resolve C seen c)
 is_own C level (star items x) = false

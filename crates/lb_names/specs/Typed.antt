@@ -2,7 +2,8 @@
 use Rattle.std.specs.Prelude.{ℕ, suc, Bool, if◌then◌else◌, nat_le, Result, Ok, Err}
 use Rattle.lb_names.specs.Kinds.{Kind, Common, one, differ}
 
--- a node that breaks a rule has parts with types, and no such node has a lower number
+-- What a node has, and the number after its last part; or the number of the node that breaks a rule, whose parts break none: of those nodes
+-- it has the least number.
 abbrev pub Typed : Type 0 → Type 0
 Typed A = Result (A × ℕ) ℕ
 

@@ -22,7 +22,7 @@ BeyondLimit = kept passes (Ok 1 ∷ Ok 5 ∷ Ok 2 ∷ Ok 3 ∷ []) 2 ≡ Err Kep
 abbrev pub taken : ℤ → ℤ → List ℕ
 taken start count = at_places (λ p. int_le start p && int_lt p (start +ℤ count)) 1 (codes "abc")
 
--- SUBSTR('abc', 0, 2): of the places 0 and 1 the text has the second
+-- SUBSTR('abc', 0, 2): of the places 0 and 1 the text has place 1 alone
 abbrev pub BeforeFirst : Type 0
 BeforeFirst = taken (pos 0) (pos 2) ≡ codes "a"
 
