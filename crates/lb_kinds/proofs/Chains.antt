@@ -1,15 +1,8 @@
 -- Joins and chains of FROM, as they are written, give rows of their tables.
-use Rattle.std.proofs.Common.{◌≡◌, refl, sym, subst, List, [], ◌∷◌, map}
+use Rattle.std.proofs.Common.{sym, subst, List, [], ◌∷◌, map}
 use Rattle.std.specs.List.{AllZip}
-use Rattle.lb_tree.specs.declared.query.Cond.{Cond}
-use Rattle.lb_tree.specs.declared.query.Expr.{Expr}
-use Rattle.lb_tree.specs.declared.query.Item.{Item}
 use Rattle.lb_tree.specs.declared.query.Join.{Join}
-use Rattle.lb_tree.specs.declared.query.Arm.{Arm}
 use Rattle.lb_tree.specs.declared.query.Chain.{Chain}
-use Rattle.lb_tree.specs.declared.query.Choice.{Choice}
-use Rattle.lb_tree.specs.declared.query.Query.{Query}
-use Rattle.lb_tree.specs.declared.query.Signed.{Signed}
 use Rattle.lb_tree.specs.declared.query.Cond.TheOpen as layers
 use Rattle.lb_tree.specs.declared.query.Cond.TheViews.{roll-Join}
 use Rattle.lb_tree.specs.declared.query.Cond.TheFolds.{ind-Join}
@@ -43,7 +36,7 @@ module _ (C : Catalogue) (S : Setting) (agrees : AgreesOn C S) where
   by_join : (x : Written layers.Join-F) → JoinLaw C S agrees ((typed_steps C).join (join_layer typed.typing (typed_steps C) x)).marked.tab ((steps S).join (join_layer meant.meaning (steps S) x)) → GJoin (roll-Join x)
   by_join x h =
       subst (λ m. JoinLaw C S agrees m.marked.tab (VJoin (roll-Join x))) (sym (join_roll typed.typing (typed_steps C) x))
-        (subst (λ w. JoinLaw C S agrees ((typed_steps C).join (join_layer typed.typing (typed_steps C) x)).marked.tab w) (sym (join_roll meant.meaning (steps S) x)) h)
+      (subst (λ w. JoinLaw C S agrees ((typed_steps C).join (join_layer typed.typing (typed_steps C) x)).marked.tab w) (sym (join_roll meant.meaning (steps S) x)) h)
 
   join_good : (x : Written layers.Join-F) → GJoin (roll-Join x)
   join_good (layers.Join-F.Inner tab c) = by_join (layers.Join-F.Inner tab c) (inner_law C S agrees tab (cond_of meant.meaning (steps S) c))
@@ -64,8 +57,8 @@ module _ (C : Catalogue) (S : Setting) (agrees : AgreesOn C S) where
   chain_fits : (x : Chain) → ChainLaw C S agrees (typed.chain_marked (NChain x)) (VChain x)
   chain_fits x =
       subst (λ m. ChainLaw C S agrees (typed.chain_marked m) (VChain x)) (sym (chain_out typed.typing (typed_steps C) x))
-        (subst (λ w. ChainLaw C S agrees (record { first = x.first; joins = map (λ j. j.marked) (map NJoin x.joins) }) w) (sym (chain_out meant.meaning (steps S) x))
-          (chain_law C S agrees x.first (map (λ j. j.marked) (map NJoin x.joins)) (map VJoin x.joins) (joins_all x.joins)))
+      (subst (λ w. ChainLaw C S agrees (record { first = x.first; joins = map (λ j. j.marked) (map NJoin x.joins) }) w) (sym (chain_out meant.meaning (steps S) x))
+      (chain_law C S agrees x.first (map (λ j. j.marked) (map NJoin x.joins)) (map VJoin x.joins) (joins_all x.joins)))
 
   pub chains_fit : (xs : List Chain) → AllZip (ChainLaw C S agrees) (map typed.chain_marked (map NChain xs)) (map VChain xs)
   chains_fit [] = tt

@@ -1,10 +1,9 @@
 -- The laws of comparisons, for whole conditions.
-use Rattle.std.proofs.Common.{ℕ, ◌≡◌, refl, sym, subst, ap, Bool, true, false, List, [], ◌∷◌, ◌++◌, map, Option, Some, None, Result, Ok, Err, if◌then◌else◌}
+use Rattle.std.proofs.Common.{ℕ, ◌≡◌, subst, true, false, List, [], ◌∷◌, ◌++◌, map, Option, Ok, Err, if◌then◌else◌}
 use Rattle.std.specs.List.{AllZip, AllByRecursion}
 use Rattle.lb_base.specs.declared.value.Value.{Value}
 use Rattle.lb_base.specs.Evaluated as evaluated
 use Rattle.lb_base.specs.Evaluated.{Evaluated, each}
-use Rattle.lb_tree.specs.declared.query.Comparison.{Comparison}
 use Rattle.lb_tree.specs.declared.query.Cond.{Cond}
 use Rattle.lb_tree.specs.declared.query.Cond.TheVariants as conds
 use Rattle.lb_tree.specs.declared.query.Expr.{Expr}
@@ -15,16 +14,16 @@ use Rattle.lb_names.specs.Sights.{Sight}
 use Rattle.lb_names.specs.Kinds.{Kind, Common, one, is_plain, is_compared_by}
 use Rattle.lb_names.specs.Marks.{Marks, of_each}
 use Rattle.lb_names.specs.Scopes.{Catalogue}
-use Rattle.lb_names.specs.Typed.{Typed, next}
+use Rattle.lb_names.specs.Typed.{next}
 use Rattle.lb_names.specs.Places.{Place}
 use Rattle.lb_names.specs.Carriers as typed
 use Rattle.lb_names.specs.Conditions.{of_plain, compared, first_kind, kind_with_query}
 use Rattle.lb_names.specs.Typing.{steps as typed_steps, says as typed_cond}
 use Rattle.lb_mean.specs.Setting.{Setting, Frame, Env}
 use Rattle.lb_mean.specs.Meant as meant
-use Rattle.lb_mean.specs.Conditions.{outputs, different_rows, all_rows, first_output}
+use Rattle.lb_mean.specs.Conditions.{outputs, different_rows, all_rows}
 use Rattle.lb_mean.specs.Meaning.{steps, means, answers}
-use Rattle.lb_kinds.specs.HasKind.{HasKind, HasKinds, GivesKind, GivesKinds}
+use Rattle.lb_kinds.specs.HasKind.{HasKinds, GivesKinds}
 use Rattle.lb_kinds.specs.Days.{Days, AreDays, all_of, writing, day_steps, days_in_cond}
 use Rattle.lb_kinds.specs.Agreement.{AgreesOn}
 use Rattle.lb_kinds.specs.Standing.{StandsIn, IsBelow, HoldsFor}
@@ -89,9 +88,9 @@ module _ (C : Catalogue) (S : Setting) where
       rows_give : GivesAll Row (all_rows (VQ q) env)
       rows_give =
           all_then Holds Row ((VQ q).frames false env) (λ frames. evaluated.◌>>=◌ (each (map (λ f. outputs (VQ q).items (f ∷ env)) frames)) (λ rows. Ok (if (VQ q).distinct then different_rows [] rows else rows)))
-            (query_stood C S agrees P home env holds below q (typed.subquery true))
-            (λ frames h. all_then Row Row (each (map (λ f. outputs (VQ q).items (f ∷ env)) frames)) (λ rows. Ok (if (VQ q).distinct then different_rows [] rows else rows)) (frames_give frames h)
-              (λ rows g. left_have S.policies P env (VQ q).distinct ks rows g))
+          (query_stood C S agrees P home env holds below q (typed.subquery true))
+          (λ frames h. all_then Row Row (each (map (λ f. outputs (VQ q).items (f ∷ env)) frames)) (λ rows. Ok (if (VQ q).distinct then different_rows [] rows else rows)) (frames_give frames h)
+          (λ rows g. left_have S.policies P env (VQ q).distinct ks rows g))
 
   -- ---- the laws
 
@@ -129,9 +128,9 @@ unfolding means
 compares_one_kind C S env by a b t =
     let h : Opened C S env _ _ = open_up C S env (conds.Compare by a b) _ _ (cond_compare typed.typing (typed_steps C) by a b) (cond_compare writing day_steps by a b) t in
     compare_kind S.policies h.place env by (N C S a) (N C S b) (V C S a) (V C S b) h.number h.after
-      (part C S h.agrees h.place h.home env h.holds h.below a (stands_first C h.place h.home ((N C S a).marks h.place.sight) ((N C S b).marks h.place.sight) h.stands) (days_first (D C S a) (D C S b) h.days))
-      (part C S h.agrees h.place h.home env h.holds h.below b (stands_second C h.place h.home ((N C S a).marks h.place.sight) ((N C S b).marks h.place.sight) h.stands) (days_second (D C S a) (D C S b) h.days))
-      h.typed
+    (part C S h.agrees h.place h.home env h.holds h.below a (stands_first C h.place h.home ((N C S a).marks h.place.sight) ((N C S b).marks h.place.sight) h.stands) (days_first (D C S a) (D C S b) h.days))
+    (part C S h.agrees h.place h.home env h.holds h.below b (stands_second C h.place h.home ((N C S a).marks h.place.sight) ((N C S b).marks h.place.sight) h.stands) (days_second (D C S a) (D C S b) h.days))
+    h.typed
 
 each_kind : (C : Catalogue) (S : Setting) (env : Env) (k : Kind) (es : List Expr) → AllByRecursion (λ w. Gives S.policies k (w.value env)) (map (V C S) es) → AllByRecursion (λ e. Gives S.policies k ((V C S e).value env)) es
 each_kind C S env k [] h = tt
@@ -144,10 +143,10 @@ list_has_one_kind C S env a es t =
     let names : Marks = of_each (λ m. m.marks) (map (N C S) es) h.place.sight in
     let days : Days = all_of (map (D C S) es) in
     let r : (k : Kind) × Gives S.policies k ((V C S a).value env) × AllByRecursion (λ w. Gives S.policies k (w.value env)) (map (V C S) es) =
-      list_kind S.policies h.place env (N C S a) (map (N C S) es) (V C S a) (map (V C S) es) h.number h.after
-        (part C S h.agrees h.place h.home env h.holds h.below a (stands_first C h.place h.home ((N C S a).marks h.place.sight) names h.stands) (days_first (D C S a) days h.days))
-        (parts C S h.agrees h.place h.home env h.holds h.below es (stands_second C h.place h.home ((N C S a).marks h.place.sight) names h.stands) (days_second (D C S a) days h.days))
-        h.typed in
+    list_kind S.policies h.place env (N C S a) (map (N C S) es) (V C S a) (map (V C S) es) h.number h.after
+    (part C S h.agrees h.place h.home env h.holds h.below a (stands_first C h.place h.home ((N C S a).marks h.place.sight) names h.stands) (days_first (D C S a) days h.days))
+    (parts C S h.agrees h.place h.home env h.holds h.below es (stands_second C h.place h.home ((N C S a).marks h.place.sight) names h.stands) (days_second (D C S a) days h.days))
+    h.typed in
     (r.0, r.1, each_kind C S env r.0 es r.2)
 
 pub bounds_have_one_kind : BoundsHaveOneKind
@@ -158,10 +157,10 @@ bounds_have_one_kind C S env a low high t =
     let w : StandsIn C h.place h.home ((N C S low).marks v ++ (N C S high).marks v) = stands_second C h.place h.home ((N C S a).marks v) ((N C S low).marks v ++ (N C S high).marks v) h.stands in
     let d : AreDays (D C S low ++ D C S high) = days_second (D C S a) (D C S low ++ D C S high) h.days in
     between_kind S.policies h.place env (N C S a) (N C S low) (N C S high) (V C S a) (V C S low) (V C S high) h.number h.after
-      (part C S h.agrees h.place h.home env h.holds h.below a (stands_first C h.place h.home ((N C S a).marks v) ((N C S low).marks v ++ (N C S high).marks v) h.stands) (days_first (D C S a) (D C S low ++ D C S high) h.days))
-      (part C S h.agrees h.place h.home env h.holds h.below low (stands_first C h.place h.home ((N C S low).marks v) ((N C S high).marks v) w) (days_first (D C S low) (D C S high) d))
-      (part C S h.agrees h.place h.home env h.holds h.below high (stands_second C h.place h.home ((N C S low).marks v) ((N C S high).marks v) w) (days_second (D C S low) (D C S high) d))
-      h.typed
+    (part C S h.agrees h.place h.home env h.holds h.below a (stands_first C h.place h.home ((N C S a).marks v) ((N C S low).marks v ++ (N C S high).marks v) h.stands) (days_first (D C S a) (D C S low ++ D C S high) h.days))
+    (part C S h.agrees h.place h.home env h.holds h.below low (stands_first C h.place h.home ((N C S low).marks v) ((N C S high).marks v) w) (days_first (D C S low) (D C S high) d))
+    (part C S h.agrees h.place h.home env h.holds h.below high (stands_second C h.place h.home ((N C S low).marks v) ((N C S high).marks v) w) (days_second (D C S low) (D C S high) d))
+    h.typed
 
 -- the kind of a value and of the rows of a subquery
 abbrev WithQuery : (C : Catalogue) (S : Setting) (env : Env) → Expr → Query → Type 0
@@ -171,8 +170,8 @@ with_query : (C : Catalogue) (S : Setting) (env : Env) (a : Expr) (q : Query) (a
     → StandsIn C P home ((N C S a).marks P.sight ++ (NQ C S q).marks P.sight) → AreDays (D C S a ++ DQ C S q) → (n : ℕ) (y : Common × ℕ) (k : Kind) → kind_with_query (N C S a) (NQ C S q) P n ≡ Ok y → y.0 ≡ one k → WithQuery C S env a q
 with_query C S env a q agrees P home holds below w d n y k e o =
     let r : Gives S.policies k ((V C S a).value env) × ((ks : List Kind) × (i : ℕ) × (j : ℕ) × ((NQ C S q).kinds (typed.subquery true) P i ≡ Ok (ks, j)) × Within S.policies (first_kind ks) k) =
-      query_kind S.policies P env (N C S a) (V C S a) (NQ C S q) n y k
-        (part C S agrees P home env holds below a (stands_first C P home ((N C S a).marks P.sight) ((NQ C S q).marks P.sight) w) (days_first (D C S a) (DQ C S q) d)) e o in
+    query_kind S.policies P env (N C S a) (V C S a) (NQ C S q) n y k
+    (part C S agrees P home env holds below a (stands_first C P home ((N C S a).marks P.sight) ((NQ C S q).marks P.sight) w) (days_first (D C S a) (DQ C S q) d)) e o in
     (k, r.0, (r.1.0, rows_give C S agrees P home env holds below q (stands_second C P home ((N C S a).marks P.sight) ((NQ C S q).marks P.sight) w) (days_second (D C S a) (DQ C S q) d) r.1.1 r.1.2 r.1.0 r.1.3, r.1.4))
 
 pub scalar_has_one_kind : ScalarHasOneKind

@@ -1,8 +1,8 @@
 -- The frames of a query's rows and groups hold rows for what is in sight in its select list.
-use Rattle.std.proofs.Common.{ℕ, ◌≡◌, ◌<◌, refl, sym, subst, ap, ◌∙◌, ◌⊎◌, inl, inr, Bool, true, false, ◌||◌, ◌&&◌, ◌==◌, List, [], ◌∷◌, ◌++◌, map, Option, Some, None, Result, Ok, Err, if◌then◌else◌, option_map, ne_eqb, ne_of_gt, eqb-true, eq-eqb}
+use Rattle.std.proofs.Common.{ℕ, ◌≡◌, ◌<◌, refl, sym, subst, ap, ◌⊎◌, inl, inr, Bool, true, false, ◌||◌, ◌&&◌, ◌==◌, List, [], ◌∷◌, ◌++◌, map, Option, Some, None, Ok, if◌then◌else◌, option_map, ne_eqb, ne_of_gt, eq-eqb}
 use Rattle.std.specs.Prelude.{is_some as given}
-use Rattle.std.specs.List.{AllZip, AllByRecursion, list_any, flat_map}
-use Rattle.lb_base.specs.Evaluated.{Evaluated, ◌>>=◌, each, passing}
+use Rattle.std.specs.List.{AllByRecursion, list_any, flat_map}
+use Rattle.lb_base.specs.Evaluated.{◌>>=◌, each, passing}
 use Rattle.lb_tree.specs.declared.query.Column.{Column}
 use Rattle.lb_tree.specs.declared.query.Tab.{Tab}
 use Rattle.lb_tree.specs.declared.query.Cond.{Cond}
@@ -12,21 +12,20 @@ use Rattle.lb_tree.specs.declared.query.Cond.TheViews.{out-Query}
 use Rattle.lb_tree.specs.Folds.{Written, cond_of, item_of, chain_of, query_of}
 use Rattle.lb_tree.proofs.Opens.{query_out}
 use Rattle.lb_names.specs.declared.place.Group.{Group}
-use Rattle.lb_names.specs.declared.place.Seen.{Seen}
 use Rattle.lb_names.specs.Sights.{Sight, items_in, level_in, inside}
 use Rattle.lb_names.specs.Marks.{tables_of}
 use Rattle.lb_names.specs.Scopes.{Catalogue, is_some}
 use Rattle.lb_names.specs.Places.{Place, shown_place}
 use Rattle.lb_names.specs.Carriers as typed
 use Rattle.lb_names.specs.Typing.{steps as typed_steps, is_listed, has_groups, group_of, groups_of, query_step as typed_query_step, answers as typed_query}
-use Rattle.lb_mean.specs.Setting.{Setting, Piece, JoinedRow, Frame, Env, row_frame, shown_piece, shown_frame}
+use Rattle.lb_mean.specs.Setting.{Setting, JoinedRow, Frame, Env, row_frame, shown_piece, shown_frame}
 use Rattle.lb_mean.specs.Meant as meant
 use Rattle.lb_mean.specs.Conditions.{is_listed as any_listed}
 use Rattle.lb_mean.specs.Joined.{joined}
 use Rattle.lb_mean.specs.Queries as queries
 use Rattle.lb_mean.specs.Meaning.{steps, answers}
 use Rattle.lb_kinds.specs.Agreement.{AgreesOn}
-use Rattle.lb_kinds.specs.Standing.{Scopes, seen_in, own_in, level_of, IsSight, is_empty, is_bare, IsBarred, IsBelow, PieceFits, JoinedFits, FrameFits, FramesFit, HoldsFor}
+use Rattle.lb_kinds.specs.Standing.{Scopes, seen_in, IsSight, is_empty, is_bare, IsBarred, IsBelow, JoinedFits, FrameFits, FramesFit, HoldsFor}
 use Rattle.lb_kinds.specs.Laws.{FramesHoldRows}
 use Rattle.lb_kinds.proofs.Results.{no_false}
 use Rattle.lb_kinds.proofs.Rows.{GivesAll, all_then, any_then, all_mapped, kept_all, passing_all, keys_all, gathered_all, GroupHas, joined_fits}
@@ -147,8 +146,8 @@ module _ (C : Catalogue) (S : Setting) (agrees : AgreesOn C S) (P : Place) (home
     groups_stood [] rows bare h = (stood (record { row = []; group = rows }) (record { row = inr (refl, bare refl); group = h }), tt)
     groups_stood (c ∷ columns) rows bare h =
         all_then (λ x. JoinedFits C S tabs x.row) Stood (each (map (queries.keyed (c ∷ columns) env) rows)) (λ xs. Ok (map queries.group_frame (queries.gathered xs)))
-          (keys_all (JoinedFits C S tabs) (c ∷ columns) env rows h)
-          (λ xs i. all_mapped (GroupHas (JoinedFits C S tabs)) Stood queries.group_frame (queries.gathered xs) group_stood (gathered_all (JoinedFits C S tabs) xs i))
+        (keys_all (JoinedFits C S tabs) (c ∷ columns) env rows h)
+        (λ xs i. all_mapped (GroupHas (JoinedFits C S tabs)) Stood queries.group_frame (queries.gathered xs) group_stood (gathered_all (JoinedFits C S tabs) xs i))
 
     framed_stood : (c : Bool) (columns : List Column) (having : Option meant.Says) (items : List meant.Shows) (from : List meant.Chains) (filter : Option meant.Says) (distinct : Bool) (rows : List JoinedRow)
         → (c ≡ true → columns ≡ [] → IsBarred shown_groups home level) → AllByRecursion (JoinedFits C S tabs) rows
@@ -175,29 +174,29 @@ module _ (C : Catalogue) (S : Setting) (agrees : AgreesOn C S) (P : Place) (home
   bare_step : (x : Written layers.Query-F) (R : typed.Role) → x.group ≡ [] → queries.is_grouped R.total (VLayer C S x) ≡ true → has_groups (NLayer C S x) R ≡ true
   bare_step x R e h =
       subst (λ cs. (is_listed cs || (is_some (NLayer C S x).having || (R.total || list_any (λ i. i.total) (NLayer C S x).items))) ≡ true) (sym e)
-        (reordered R.total (list_any (λ i. i.total) (NLayer C S x).items) (list_any (λ i. i.total) (VLayer C S x).items) (given (VLayer C S x).having) (is_some (NLayer C S x).having)
-          (items_total C S x.items) (same_having x.having)
-          (subst (λ cs. (R.total || (list_any (λ i. i.total) (VLayer C S x).items || (any_listed cs || given (VLayer C S x).having))) ≡ true) e h))
+      (reordered R.total (list_any (λ i. i.total) (NLayer C S x).items) (list_any (λ i. i.total) (VLayer C S x).items) (given (VLayer C S x).having) (is_some (NLayer C S x).having)
+      (items_total C S x.items) (same_having x.having)
+      (subst (λ cs. (R.total || (list_any (λ i. i.total) (VLayer C S x).items || (any_listed cs || given (VLayer C S x).having))) ≡ true) e h))
 
   bare_query : (x : Written layers.Query-F) (R : typed.Role) → queries.is_grouped R.total (VLayer C S x) ≡ true → x.group ≡ []
       → IsBarred (groups_of C (NLayer C S x) R P) home level
   bare_query x R h e =
       bare_group (has_groups (NLayer C S x) R) (group_of C x.group P (tabs_of C S x)) P.groups home P.sight level (bare_step x R e h) (ap level_in holds.sight.seen)
-        (ap (λ cs. is_empty (group_of C cs P (tabs_of C S x)).columns) e) (ap level_in holds.sight.seen) below
+      (ap (λ cs. is_empty (group_of C cs P (tabs_of C S x)).columns) e) (ap level_in holds.sight.seen) below
 
   layer_stood : (x : Written layers.Query-F) (R : typed.Role) → GivesAll (λ f. HoldsFor C S (shown_place P (tabs_of C S x) (groups_of C (NLayer C S x) R P)) home (f ∷ env)) (queries.query_frames (VLayer C S x) R.total env)
   layer_stood x R =
       any_then (Stood (tabs_of C S x) (has_groups (NLayer C S x) R) (group_of C x.group P (tabs_of C S x))) (each (flat_map (λ c. c.seen) (VLayer C S x).from)) (λ seen. queries.kept_rows (VLayer C S x).filter env (joined (VLayer C S x).from env) >>= λ rows. queries.framed (queries.is_grouped R.total (VLayer C S x)) (VLayer C S x) env rows)
-        (λ seen. all_then (JoinedFits C S (tabs_of C S x)) (Stood (tabs_of C S x) (has_groups (NLayer C S x) R) (group_of C x.group P (tabs_of C S x))) (queries.kept_rows (VLayer C S x).filter env (joined (VLayer C S x).from env)) (λ rows. queries.framed (queries.is_grouped R.total (VLayer C S x)) (VLayer C S x) env rows)
-          (kept_all (JoinedFits C S (tabs_of C S x)) (λ row. queries.where_true (VLayer C S x).filter (row_frame row ∷ env)) (joined (VLayer C S x).from env) queries.kept_limit
-            (joined_fits C S agrees (map typed.chain_marked (map (chain_of typed.typing (typed_steps C)) x.from)) (VLayer C S x).from env (chains_fit C S agrees x.from)))
-          (λ rows h. framed_stood (tabs_of C S x) (has_groups (NLayer C S x) R) (group_of C x.group P (tabs_of C S x)) (queries.is_grouped R.total (VLayer C S x)) x.group (VLayer C S x).having (VLayer C S x).items (VLayer C S x).from (VLayer C S x).filter x.distinct rows (bare_query x R) h))
+      (λ seen. all_then (JoinedFits C S (tabs_of C S x)) (Stood (tabs_of C S x) (has_groups (NLayer C S x) R) (group_of C x.group P (tabs_of C S x))) (queries.kept_rows (VLayer C S x).filter env (joined (VLayer C S x).from env)) (λ rows. queries.framed (queries.is_grouped R.total (VLayer C S x)) (VLayer C S x) env rows)
+      (kept_all (JoinedFits C S (tabs_of C S x)) (λ row. queries.where_true (VLayer C S x).filter (row_frame row ∷ env)) (joined (VLayer C S x).from env) queries.kept_limit
+      (joined_fits C S agrees (map typed.chain_marked (map (chain_of typed.typing (typed_steps C)) x.from)) (VLayer C S x).from env (chains_fit C S agrees x.from)))
+      (λ rows h. framed_stood (tabs_of C S x) (has_groups (NLayer C S x) R) (group_of C x.group P (tabs_of C S x)) (queries.is_grouped R.total (VLayer C S x)) x.group (VLayer C S x).having (VLayer C S x).items (VLayer C S x).from (VLayer C S x).filter x.distinct rows (bare_query x R) h))
 
   pub query_stood : (q : Query) (R : typed.Role) → GivesAll (λ f. HoldsFor C S ((query_of typed.typing (typed_steps C) q).shown R P) home (f ∷ env)) ((query_of meant.meaning (steps S) q).frames R.total env)
   query_stood q R =
       subst (λ m. GivesAll (λ f. HoldsFor C S (m.shown R P) home (f ∷ env)) ((query_of meant.meaning (steps S) q).frames R.total env)) (sym (query_out typed.typing (typed_steps C) q))
-        (subst (λ w. GivesAll (λ f. HoldsFor C S ((typed_query_step C (NLayer C S (out-Query q))).shown R P) home (f ∷ env)) (w.frames R.total env)) (sym (query_out meant.meaning (steps S) q))
-          (layer_stood (out-Query q) R))
+      (subst (λ w. GivesAll (λ f. HoldsFor C S ((typed_query_step C (NLayer C S (out-Query q))).shown R P) home (f ∷ env)) (w.frames R.total env)) (sym (query_out meant.meaning (steps S) q))
+      (layer_stood (out-Query q) R))
 
   each_shown : (Q : Place) (frames : List Frame) → AllByRecursion (λ f. HoldsFor C S Q home (f ∷ env)) frames → AllByRecursion (λ f. HoldsFor C S Q home (f ∷ env) × HoldsFor C S Q home (shown_frame f ∷ env)) frames
   each_shown Q [] h = tt
@@ -207,4 +206,4 @@ pub frames_hold : FramesHoldRows
 unfolding typed_query answers
 frames_hold C S agrees P home env holds below q R frames e =
     each_shown C S agrees P home env holds below ((query_of typed.typing (typed_steps C) q).shown R P) frames
-      (subst (λ x. GivesAll (λ f. HoldsFor C S ((query_of typed.typing (typed_steps C) q).shown R P) home (f ∷ env)) x) e (query_stood C S agrees P home env holds below q R))
+    (subst (λ x. GivesAll (λ f. HoldsFor C S ((query_of typed.typing (typed_steps C) q).shown R P) home (f ∷ env)) x) e (query_stood C S agrees P home env holds below q R))

@@ -1,13 +1,11 @@
 -- The label that a label text spells, and the labels of a policy's records, are labels of the policy's shape.
-use Rattle.std.proofs.Common.{ℕ, zero, suc, ◌+◌, ◌*◌, ◌^◌, ◌<◌, ◌≤◌, ◌≡◌, refl, sym, subst, ap, ◌∙◌, cond, Bool, true, false, List, [], ◌∷◌, map, length, sum, fold, Option, Some, None, Result, Ok, Err, bytes_eq, if◌then◌else◌, arith, add-one, le_trans, zero-le, pow-suc, add-suc, zero-add, add_comm, add_assoc, add-zero, le_refl}
+use Rattle.std.proofs.Common.{ℕ, zero, suc, ◌+◌, ◌^◌, ◌<◌, ◌≤◌, ◌≡◌, refl, sym, subst, ap, ◌∙◌, cond, Bool, true, false, List, [], ◌∷◌, map, length, sum, fold, Option, Some, None, Result, Ok, Err, bytes_eq, arith, add-one, zero-le, pow-suc, zero-add, add-zero, le_refl}
 use Rattle.std.specs.Prelude.{find, filter}
 use Rattle.std.specs.List.{AllZip, AllByRecursion, range_with_len}
-use Rattle.lb_base.specs.declared.value.Value.{Value}
-use Rattle.lb_base.specs.declared.value.Value.TheVariants as values
 use Rattle.lb_label.specs.declared.kind.ComponentKind.{ComponentKind}
 use Rattle.lb_label.specs.declared.kind.ComponentKind.TheVariants.{Set, Array, Tree}
 use Rattle.lb_label.specs.Component.{Definition, numbers}
-use Rattle.lb_label.specs.Label.{fits_in, IsPart, IsLabel}
+use Rattle.lb_label.specs.Label.{fits_in, IsLabel}
 use Rattle.lb_label.specs.LabelText.{named_in, is_named, elements_named, failing_in, in_front, unless_fails, read_parts, read_label}
 use Rattle.lb_cat.specs.declared.catalog.LabelRec.{LabelRec}
 use Rattle.lb_cat.specs.Catalog.{Policy, is_label}
@@ -54,7 +52,7 @@ module _ (p : ℕ → Bool) where
   bits_from a zero s = rw add-zero (le_refl (s + 2 ^ a))
   bits_from a (suc n) s =
       bits_step (p a) s a (filter p (range_with_len (a + 1) n)) (2 ^ (a + suc n))
-        (λ t. subst (λ k. total t (map bit_of (filter p (range_with_len (a + 1) n))) + 2 ^ (a + 1) ≤ t + 2 ^ k) (omega arith) (bits_from (a + 1) n t))
+      (λ t. subst (λ k. total t (map bit_of (filter p (range_with_len (a + 1) n))) + 2 ^ (a + 1) ≤ t + 2 ^ k) (omega arith) (bits_from (a + 1) n t))
 
   first_step : (b : Bool) (a n e : ℕ) (es xs : List ℕ) → (xs ≡ e ∷ es → e + 1 ≤ (a + 1) + n) → cond b (a ∷ xs) xs ≡ e ∷ es → e + 1 ≤ a + suc n
   first_step true a n e es xs rec h = let q : a ≡ e = ap (head_or a) h in omega arith
@@ -93,7 +91,7 @@ read_step c shape part (Some place) rest spelled e h = absurd (no_err {A = List 
 read_step c shape part None (Err at) spelled e h = absurd (no_err {A = List (List ℕ)} at spelled e)
 read_step c shape part None (Ok more) spelled e h =
     subst (λ l. IsLabel (c ∷ shape) (parts_of (c ∷ shape) l)) (same_ok {B = ℕ} (elements_named c part ∷ more) spelled e)
-      (part_fits c.kind (is_named c (named_in part)) (length c.elements), h more refl)
+    (part_fits c.kind (is_named c (named_in part)) (length c.elements), h more refl)
 
 read_fits : (end : ℕ) (shape : List Definition) (at : ℕ) (parts : List (List ℕ)) (spelled : List (List ℕ)) → read_parts end shape at parts ≡ Ok spelled → IsLabel shape (parts_of shape spelled)
 read_fits end [] at parts spelled e = tt

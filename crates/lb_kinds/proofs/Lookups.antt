@@ -1,5 +1,5 @@
 -- A column that resolves at a place gives a value of its kind in an environment for that place.
-use Rattle.std.proofs.Common.{ℕ, ◌≡◌, refl, sym, subst, ap, ◌∙◌, ◌⊎◌, inl, inr, cond, not, ◌&&◌, ◌||◌, ◌==◌, Bool, true, false, List, [], ◌∷◌, ◌++◌, map, Option, Some, None, Result, Ok, Err, bytes_eq, if◌then◌else◌}
+use Rattle.std.proofs.Common.{ℕ, ◌≡◌, refl, sym, subst, ap, ◌∙◌, ◌⊎◌, inl, inr, cond, not, ◌&&◌, ◌||◌, ◌==◌, Bool, true, false, List, [], ◌∷◌, ◌++◌, map, Option, Some, None, Ok, Err, bytes_eq, if◌then◌else◌}
 use Rattle.std.specs.Prelude.{find}
 use Rattle.std.specs.List.{list_any, list_all, AllZip}
 use Rattle.std.specs.Option.{option_or}
@@ -22,9 +22,9 @@ use Rattle.lb_mean.specs.Setting.{Setting, SeenColumn, Piece, JoinedRow, Frame, 
 use Rattle.lb_mean.specs.Environment.{is_called, is_in, piece_of, cell_named, cell_in, column_value}
 use Rattle.lb_kinds.specs.HasKind.{Policies, GivesKind}
 use Rattle.lb_kinds.specs.Agreement.{SameName, CellsFit, AgreesOn}
-use Rattle.lb_kinds.specs.Standing.{Scopes, seen_in, is_empty, is_bare, IsBarred, StandsIn, PieceFits, JoinedFits, FrameFits, FramesFit, HoldsFor}
+use Rattle.lb_kinds.specs.Standing.{Scopes, seen_in, is_empty, is_bare, IsBarred, StandsIn, PieceFits, JoinedFits, FramesFit, HoldsFor}
 use Rattle.lb_kinds.specs.Laws.{ColumnsGiveTheirKind}
-use Rattle.lb_kinds.proofs.Results.{same_ok, no_err, same_some, no_none, no_false, no_true, left_true, right_true, either_true, not_true}
+use Rattle.lb_kinds.proofs.Results.{same_ok, no_err, same_some, no_none, no_false, no_true, left_true, right_true, either_true}
 
 -- ---- columns of one table
 
@@ -45,7 +45,7 @@ module _ (policies : Policies) where
   cell_fits n f (g ∷ fields) (c ∷ columns) [] h k e = absurd k
   cell_fits n f (g ∷ fields) (c ∷ columns) (x ∷ cells) h k e =
       subst (λ z. GivesKind policies f.kind (if bytes_eq z n then x else cell_named n columns cells)) (sym h.0)
-        (picked (bytes_eq g.name n) g f (field_named n fields) x (cell_named n columns cells) e k.0 (cell_fits n f fields columns cells h.1 k.1))
+      (picked (bytes_eq g.name n) g f (field_named n fields) x (cell_named n columns cells) e k.0 (cell_fits n f fields columns cells h.1 k.1))
 
 -- the field and the item that are found
 pub found_field : (n : Name) (s : Seen) (o : Option Field) (x : Found) → found_in n s o ≡ Ok x → (o ≡ Some x.field) × (x.item ≡ s)
@@ -66,7 +66,7 @@ module _ (C : Catalogue) (S : Setting) (agrees : AgreesOn C S) where
   in_piece n s p x h e =
       let f : (field_named n (columns_of C s.tab) ≡ Some x.field) × (x.item ≡ s) = found_field n s (field_named n (columns_of C s.tab)) x e in
       subst (λ z. Gives x.field.kind (cell_named n z p.cells)) (sym h.columns)
-        (cell_fits S.policies n x.field (columns_of C s.tab) (S.sources s.tab.table).columns p.cells (agrees.tables s.tab.table).columns h.cells f.0)
+      (cell_fits S.policies n x.field (columns_of C s.tab) (S.sources s.tab.table).columns p.cells (agrees.tables s.tab.table).columns h.cells f.0)
 
   -- the column resolves in the query or further out, and so does its value
   abbrev Outside : Name → Found → Resolved → Option Piece → Type 0
@@ -85,8 +85,8 @@ module _ (C : Catalogue) (S : Setting) (agrees : AgreesOn C S) where
   in_row_named y n level (t ∷ tabs) [] outer other x h e out = absurd h
   in_row_named y n level (t ∷ tabs) (p ∷ row) outer other x h e out =
       subst (λ z. Gives x.field.kind (cell_in n (option_or (cond (bytes_eq z y) (Some p) (find (is_in (Some y) n) row)) other))) (sym h.0.correlation)
-        (named_step (bytes_eq (correlation t) y) n (at_level level t) p x (qualified C y n (map (at_level level) tabs ++ outer)) (find (is_in (Some y) n) row) other h.0 e
-          (λ f. in_row_named y n level tabs row outer other x h.1 f out))
+      (named_step (bytes_eq (correlation t) y) n (at_level level t) p x (qualified C y n (map (at_level level) tabs ++ outer)) (find (is_in (Some y) n) row) other h.0 e
+      (λ f. in_row_named y n level tabs row outer other x h.1 f out))
 
   bare_step : (b c : Bool) (n : Name) (s : Seen) (p : Piece) (x : Found) (further : Resolved) (row other : Option Piece) → PieceFits C S s.tab p
       → (if b then (if c then Err n else column_of C n s) else further) ≡ Ok x → Outside n x further (option_or row other) → Gives x.field.kind (cell_in n (option_or (cond b (Some p) row) other))
@@ -105,8 +105,8 @@ module _ (C : Catalogue) (S : Setting) (agrees : AgreesOn C S) where
   in_row_bare n level (t ∷ tabs) [] outer other x h e out = absurd h
   in_row_bare n level (t ∷ tabs) (p ∷ row) outer other x h e out =
       subst (λ z. Gives x.field.kind (cell_in n (option_or (cond z (Some p) (find (is_in None n) row)) other))) (sym (has_same n t p h.0))
-        (bare_step (has_column C n (at_level level t)) (is_shared C n level (map (at_level level) tabs ++ outer)) n (at_level level t) p x (unqualified C n (map (at_level level) tabs ++ outer)) (find (is_in None n) row) other h.0 e
-          (λ f. in_row_bare n level tabs row outer other x h.1 f out))
+      (bare_step (has_column C n (at_level level t)) (is_shared C n level (map (at_level level) tabs ++ outer)) n (at_level level t) p x (unqualified C n (map (at_level level) tabs ++ outer)) (find (is_in None n) row) other h.0 e
+      (λ f. in_row_bare n level tabs row outer other x h.1 f out))
 
   pub in_row : (c : Option Name) (n : Name) (level : ℕ) (tabs : List Tab) (row : JoinedRow) (outer : List Seen) (other : Option Piece) (x : Found) → JoinedFits C S tabs row
       → resolved_as C c n (map (at_level level) tabs ++ outer) ≡ Ok x → Outside n x (resolved_as C c n outer) other
@@ -151,7 +151,7 @@ module _ (C : Catalogue) (S : Setting) (agrees : AgreesOn C S) where
   in_frame c n barred tabs outer f other x asked (inl h) e out = in_row c n (level_in outer) tabs f.row outer other x h e out
   in_frame c n barred tabs outer f other x asked (inr h) e out =
       subst (λ row. Gives x.field.kind (cell_in n (option_or (find (is_in c n) row) other))) (sym h.0)
-        (no_row c n (level_in outer) barred tabs outer other x h.1 asked (resolves_at c n (level_in outer) tabs outer x e) out)
+      (no_row c n (level_in outer) barred tabs outer other x h.1 asked (resolves_at c n (level_in outer) tabs outer x e) out)
 
   unresolved : (c : Option Name) (n : Name) (x : Found) → resolved_as C c n [] ≡ Ok x → ⊥
   unresolved None n x e = no_err n x e
@@ -180,8 +180,8 @@ module _ (C : Catalogue) (S : Setting) (agrees : AgreesOn C S) where
   grouped s [] e b = no_false b
   grouped s (g ∷ groups) e b =
       first_or_rest s g (list_any (is_bare s.level) groups) (left_true (is_in_group s g) (list_all (is_in_group s) groups) e)
-        (grouped s groups (right_true (is_in_group s g) (list_all (is_in_group s) groups) e))
-        (either_true (is_bare s.level g) (list_any (is_bare s.level) groups) b)
+      (grouped s groups (right_true (is_in_group s g) (list_all (is_in_group s) groups) e))
+      (either_true (is_bare s.level g) (list_any (is_bare s.level) groups) b)
 
   pub free_outside : (within : Bool) (s : Spot) (groups : List Group) → within ≡ false → (within || list_all (is_in_group s) groups) ≡ true → list_all (is_in_group s) groups ≡ true
   free_outside true s groups w e = absurd (no_true w)
@@ -213,8 +213,8 @@ module _ (C : Catalogue) (S : Setting) (agrees : AgreesOn C S) where
   pub column_fits : (P : Place) (home : Option ℕ) (env : Env) → HoldsFor C S P home env → (c : Column) (k : Kind) → StandsIn C P home (column P.sight.seen c ∷ []) → Settled P c k → Gives k (column_value c env)
   column_fits P home env h c k w s =
       subst (λ j. Gives j (column_value c env)) s.kind
-        (in_frames c (IsBarred P.groups home) h.scopes env s.found (is_asked P home c s.found w s.resolves s.free) h.frames
-          (ap (λ seen. resolve C seen c) (sym h.sight.seen) ∙ s.resolves))
+      (in_frames c (IsBarred P.groups home) h.scopes env s.found (is_asked P home c s.found w s.resolves s.free) h.frames
+      (ap (λ seen. resolve C seen c) (sym h.sight.seen) ∙ s.resolves))
 
 pub columns_give : ColumnsGiveTheirKind
 columns_give C S agrees P home env h c w n m k e = column_fits C S agrees P home env h c k w (settled C S agrees P c n m k (resolve C P.sight.seen c) refl e)

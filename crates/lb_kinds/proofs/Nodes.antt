@@ -1,16 +1,15 @@
 -- What the nodes of expressions give where their parts give values of their kinds: CASE and COALESCE.
-use Rattle.std.proofs.Common.{ℕ, ◌≡◌, refl, sym, subst, ap, Bool, true, false, List, [], ◌∷◌, Option, Some, None, Result, Ok, Err, if◌then◌else◌}
+use Rattle.std.proofs.Common.{ℕ, ◌≡◌, sym, subst, Bool, true, false, List, [], ◌∷◌, Option, Some, None, Ok, Err, if◌then◌else◌}
 use Rattle.std.specs.List.{AllZip}
 use Rattle.lb_base.specs.declared.value.Value.{Value}
-use Rattle.lb_base.specs.declared.truth.Truth.{Truth}
 use Rattle.lb_base.specs.Compare.{equal_of}
 use Rattle.lb_base.specs.Conditions.{is_null}
 use Rattle.lb_base.specs.Evaluated.{Evaluated, ◌>>=◌}
 use Rattle.lb_base.specs.Truths.{is_true}
-use Rattle.lb_names.specs.Kinds.{Kind, Common, one, null, with_kind}
+use Rattle.lb_names.specs.Kinds.{Kind, Common, with_kind}
 use Rattle.lb_names.specs.Places.{Place}
 use Rattle.lb_names.specs.Carriers as typed
-use Rattle.lb_names.specs.Parts.{kind_of_all, kind_with, kind_of_any, kind_of_arm, kind_of_arms, and_kind, kinds_of_choice, kinds_of_choices}
+use Rattle.lb_names.specs.Parts.{kind_of_all, kind_of_any, kind_of_arm, kind_of_arms, and_kind, kinds_of_choice, kinds_of_choices}
 use Rattle.lb_mean.specs.Setting.{Env}
 use Rattle.lb_mean.specs.Meant as meant
 use Rattle.lb_mean.specs.Expressions.{or_null, if_written, first_true, first_equal, otherwise, first_known}
@@ -94,9 +93,11 @@ module _ (policies : Policies) (P : Place) (env : Env) where
       let b : Bound (kind_of_arm a P n) (λ x. kind_of_arms (with_kind c x.0) arms P x.1) y = bound (kind_of_arm a P n) (λ x. kind_of_arms (with_kind c x.0) arms P x.1) y e in
       let r : InCommon policies (with_kind c b.0.0) l × GivesAny l (first_true ws env) = arms_give arms ws (with_kind c b.0.0) b.0.1 y l h.1 b.2 q in
       let i : InCommon policies c l × Within policies b.0.0 l = with_within policies c b.0.0 l r.0 in
-      let d : Bound (a.when.typed P n) (λ x. a.result.kind P x.1) b.0 = bound (a.when.typed P n) (λ x. a.result.kind P x.1) b.0 b.1 in
-      (i.0, arm_or_rest is_true l (w.when.test env) (if_written (Some w.result) env) (first_true ws env)
-        (written_gives l (w.result.value env) (gives_within policies b.0.0 l i.1 (w.result.value env) (h.0 d.0.1 b.0.1 b.0.0 d.2))) r.1)
+      let d : Bound (a.when.typed P n) (λ x. a.result.kind P x.1) b.0 = bound (a.when.typed P n) (λ x. a.result.kind P x.1) b.0 b.1 in (
+        i.0,
+        arm_or_rest is_true l (w.when.test env) (if_written (Some w.result) env) (first_true ws env)
+            (written_gives l (w.result.value env) (gives_within policies b.0.0 l i.1 (w.result.value env) (h.0 d.0.1 b.0.1 b.0.0 d.2))) r.1,
+      )
 
   pub choices_give : (x : Value) (cs : List typed.Choices) (ws : List meant.Chooses) (operands c : Common) (n : ℕ) (y : (Common × Common) × ℕ) (l : Kind) → AllZip ChoiceGives cs ws
       → kinds_of_choices operands c cs P n ≡ Ok y → InCommon policies y.0.1 l → InCommon policies c l × GivesAny l (first_equal x ws env)
@@ -110,9 +111,11 @@ module _ (policies : Policies) (P : Place) (env : Env) where
       let i : InCommon policies c l × Within policies b.0.0.1 l = with_within policies c b.0.0.1 l r.0 in
       let d : Bound (a.when.kind P n) (λ z. and_kind z.0 a.result P z.1) b.0 = bound (a.when.kind P n) (λ z. and_kind z.0 a.result P z.1) b.0 b.1 in
       let f : Bound (a.result.kind P d.0.1) (λ z. Ok ((d.0.0, z.0), z.1)) b.0 = bound (a.result.kind P d.0.1) (λ z. Ok ((d.0.0, z.0), z.1)) b.0 d.2 in
-      let j : f.0.0 ≡ b.0.0.1 = (λ i. (same_ok {B = ℕ} ((d.0.0, f.0.0), f.0.1) b.0 f.2 i).0.1) in
-      (i.0, arm_or_rest (λ v. is_true (equal_of x v)) l (w.when.value env) (if_written (Some w.result) env) (first_equal x ws env)
-        (written_gives l (w.result.value env) (gives_within policies b.0.0.1 l i.1 (w.result.value env) (subst (λ k. Gives policies k (w.result.value env)) j (h.0 d.0.1 f.0.1 f.0.0 f.1)))) r.1)
+      let j : f.0.0 ≡ b.0.0.1 = (λ i. (same_ok {B = ℕ} ((d.0.0, f.0.0), f.0.1) b.0 f.2 i).0.1) in (
+        i.0,
+        arm_or_rest (λ v. is_true (equal_of x v)) l (w.when.value env) (if_written (Some w.result) env) (first_equal x ws env)
+            (written_gives l (w.result.value env) (gives_within policies b.0.0.1 l i.1 (w.result.value env) (subst (λ k. Gives policies k (w.result.value env)) j (h.0 d.0.1 f.0.1 f.0.0 f.1)))) r.1,
+      )
 
   pub or_else_gives : (k : Kind) (x : Evaluated (Option Value)) (other : Option meant.Means) → GivesAny k x → Gives policies k (or_null other env) → Gives policies k (x >>= otherwise other env)
   or_else_gives k (Ok None) other g h = h

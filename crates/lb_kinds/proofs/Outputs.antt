@@ -1,53 +1,41 @@
 -- The outputs of a query without a broken node are null or of the kinds of their places in the select list.
-use Rattle.std.proofs.Common.{ℕ, ◌≡◌, refl, sym, subst, ap, ◌∙◌, ◌⊎◌, inl, inr, cond, Bool, true, false, not, ◌||◌, ◌&&◌, List, [], ◌∷◌, ◌++◌, map, Option, Some, None, Result, Ok, Err, if◌then◌else◌, bytes_eq, append_assoc, append-nil, length, option_map}
-use Rattle.std.specs.Prelude.{filter}
-use Rattle.std.specs.List.{AllZip, AllByRecursion, list_any, list_all, flat_map}
+use Rattle.std.proofs.Common.{ℕ, ◌≡◌, sym, subst, ap, ◌∙◌, List, [], ◌∷◌, ◌++◌, map, Option, Some, None, Ok, Err, append_assoc, append-nil, length, option_map}
+use Rattle.std.specs.List.{AllZip, AllByRecursion, flat_map}
 use Rattle.lb_base.specs.declared.value.Value.{Value}
 use Rattle.lb_base.specs.Evaluated as evaluated
 use Rattle.lb_base.specs.Evaluated.{Evaluated, each}
 use Rattle.lb_tree.specs.declared.query.Tab.{Tab}
-use Rattle.lb_tree.specs.declared.query.Cond.{Cond}
-use Rattle.lb_tree.specs.declared.query.Expr.{Expr}
 use Rattle.lb_tree.specs.declared.query.Item.{Item}
-use Rattle.lb_tree.specs.declared.query.Join.{Join}
-use Rattle.lb_tree.specs.declared.query.Arm.{Arm}
-use Rattle.lb_tree.specs.declared.query.Chain.{Chain}
-use Rattle.lb_tree.specs.declared.query.Choice.{Choice}
 use Rattle.lb_tree.specs.declared.query.Query.{Query}
-use Rattle.lb_tree.specs.declared.query.Signed.{Signed}
 use Rattle.lb_tree.specs.declared.query.Cond.TheOpen as layers
-use Rattle.lb_tree.specs.declared.query.Cond.TheViews.{roll-Item, out-Query}
-use Rattle.lb_tree.specs.declared.query.Cond.TheFolds.{map-Item, ind-Item}
-use Rattle.lb_tree.specs.Folds.{Written, item_of, item_layer, chain_of, cond_of, query_of, expr_of}
-use Rattle.lb_tree.proofs.Opens.{item_roll, query_out}
-use Rattle.lb_names.specs.declared.place.Seen.{Seen}
+use Rattle.lb_tree.specs.declared.query.Cond.TheViews.{out-Query}
+use Rattle.lb_tree.specs.Folds.{Written, chain_of, cond_of, query_of}
+use Rattle.lb_tree.proofs.Opens.{query_out}
 use Rattle.lb_names.specs.declared.place.Group.{Group}
-use Rattle.lb_names.specs.Sights.{Name, Sight, correlation, at_level, items_in, level_in, inside, calls_of}
+use Rattle.lb_names.specs.Sights.{Sight, items_in, inside, calls_of}
 use Rattle.lb_names.specs.Kinds.{Kind}
-use Rattle.lb_names.specs.Marks.{Marks, star, enter, column, of_each, of_any, chains_marks}
-use Rattle.lb_names.specs.Scopes.{Field, Catalogue, columns_of, spot_of}
+use Rattle.lb_names.specs.Marks.{Marks, enter, column, of_each, of_any, chains_marks}
+use Rattle.lb_names.specs.Scopes.{Catalogue}
 use Rattle.lb_names.specs.Typed as typings
 use Rattle.lb_names.specs.Typed.{Typed, next, only_if}
-use Rattle.lb_names.specs.Places.{Place, filter_place, having_place, shown_place, is_free, all_free_of, all_free}
+use Rattle.lb_names.specs.Places.{Place, filter_place, having_place, shown_place}
 use Rattle.lb_names.specs.Carriers as typed
-use Rattle.lb_names.specs.SelectLists.{kinds_of_item, column_kinds, fit, star_fits, star_outputs, called, outputs_of, rest_of, chains_typed, item_step as typed_item_step}
+use Rattle.lb_names.specs.SelectLists.{outputs_of, rest_of, chains_typed}
 use Rattle.lb_names.specs.Typing.{steps as typed_steps, maybe_typed, group_typed, query_fits, wanted_of, groups_of, query_kinds, query_step as typed_query_step, answers as typed_query}
-use Rattle.lb_mean.specs.Setting.{Setting, Piece, JoinedRow, Frame, Env, shown_frame}
+use Rattle.lb_mean.specs.Setting.{Setting, Frame, Env, shown_frame}
 use Rattle.lb_mean.specs.Meant as meant
 use Rattle.lb_mean.specs.Conditions.{outputs}
-use Rattle.lb_mean.specs.Queries.{own_row, item_step, query_step}
+use Rattle.lb_mean.specs.Queries.{query_step}
 use Rattle.lb_mean.specs.Meaning.{steps, answers}
-use Rattle.lb_kinds.specs.HasKind.{Policies, HasKinds, GivesKinds}
-use Rattle.lb_kinds.specs.Days.{Days, AreDays, all_of, if_given, writing, day_steps, in_item_layer, in_query_layer, days_in_query}
-use Rattle.lb_kinds.specs.Agreement.{CellsFit, AgreesOn}
-use Rattle.lb_kinds.specs.Standing.{Scopes, seen_in, own_in, IsSight, IsBarred, StandsIn, IsBelow, PieceFits, JoinedFits, FrameFits, FramesFit, HoldsFor}
+use Rattle.lb_kinds.specs.HasKind.{Policies, GivesKinds}
+use Rattle.lb_kinds.specs.Days.{Days, AreDays, all_of, if_given, writing, day_steps, in_query_layer, days_in_query}
+use Rattle.lb_kinds.specs.Agreement.{AgreesOn}
+use Rattle.lb_kinds.specs.Standing.{StandsIn, HoldsFor}
 use Rattle.lb_kinds.specs.Laws.{OutputsGiveTheirKinds}
-use Rattle.lb_kinds.proofs.Results.{same_ok, no_false, left_true, right_true}
+use Rattle.lb_kinds.proofs.Results.{same_ok}
 use Rattle.lb_kinds.proofs.Values.{Gives}
-use Rattle.lb_kinds.proofs.Lookups.{grouped, free_outside}
 use Rattle.lb_kinds.proofs.Shares.{stands_first, stands_second, days_first, days_second}
 use Rattle.lb_kinds.proofs.Typings.{Bound, bound, is_if}
-use Rattle.lb_kinds.proofs.Expressions.{all_good}
 use Rattle.lb_kinds.proofs.Rows.{zip_first, GivesAll}
 use Rattle.lb_kinds.proofs.Stars.{Each, NI, VI, DI, item_all}
 use Rattle.lb_kinds.proofs.Frames.{NLayer, VLayer, tabs_of, query_stood, shown_holds}
@@ -81,10 +69,12 @@ module _ (C : Catalogue) (S : Setting) (agrees : AgreesOn C S) where
         let names : Marks = of_each (λ i. i.marks) (map (NI C S agrees) xs) P.sight in
         let days : Days = all_of (map (DI C S agrees) xs) in
         let r : More (so_far ++ b.0.0) (flat_map (λ i. i.values env) (map (VI C S agrees) xs)) y.0 =
-          items_give xs (so_far ++ b.0.0) (record W { kinds = rest_of W.kinds (length b.0.0) }) b.0.1 y (stands_second C P home (((NI C S agrees) x).marks P.sight) names w) (days_second ((DI C S agrees) x) days d) b.2 in
-        (b.0.0 ++ r.0, r.1 ∙ append_assoc so_far b.0.0 r.0,
-         zip_first (Gives S.policies) b.0.0 (((VI C S agrees) x).values env) r.0 (flat_map (λ i. i.values env) (map (VI C S agrees) xs))
-           (item_all C S agrees x P home env holds (stands_first C P home (((NI C S agrees) x).marks P.sight) names w) (days_first ((DI C S agrees) x) days d) W n b.0.1 b.0.0 b.1) r.2)
+        items_give xs (so_far ++ b.0.0) (record W { kinds = rest_of W.kinds (length b.0.0) }) b.0.1 y (stands_second C P home (((NI C S agrees) x).marks P.sight) names w) (days_second ((DI C S agrees) x) days d) b.2 in (
+          b.0.0 ++ r.0,
+          r.1 ∙ append_assoc so_far b.0.0 r.0,
+          zip_first (Gives S.policies) b.0.0 (((VI C S agrees) x).values env) r.0 (flat_map (λ i. i.values env) (map (VI C S agrees) xs))
+              (item_all C S agrees x P home env holds (stands_first C P home (((NI C S agrees) x).marks P.sight) names w) (days_first ((DI C S agrees) x) days d) W n b.0.1 b.0.0 b.1) r.2,
+        )
 
     pub outputs_give : (xs : List Item) (W : typed.Wanted) (n : ℕ) (y : List Kind × ℕ) → StandsIn C P home (of_each (λ i. i.marks) (map (NI C S agrees) xs) P.sight) → AreDays (all_of (map (DI C S agrees) xs))
         → outputs_of (map (NI C S agrees) xs) [] W P n ≡ Ok y → GivesKinds S.policies y.0 (outputs (map (VI C S agrees) xs) env)
@@ -142,8 +132,8 @@ module _ (C : Catalogue) (S : Setting) (agrees : AgreesOn C S) where
       → StandsIn C P home (of_each (λ i. i.marks) (map (NI C S agrees) x.items) (inside P.sight (tabs_of C S x))) → AreDays (all_of (map (DI C S agrees) x.items)) → GivesKinds S.policies ks (outputs (map (VI C S agrees) x.items) env)
   listed_gives x R P home env n ks y holds w d =
       subst (λ z. GivesKinds S.policies z (outputs (map (VI C S agrees) x.items) env)) y.2
-        (outputs_give (shown_place P (tabs_of C S x) (groups_of C (NLayer C S x) R P)) home env holds x.items (wanted_of (NLayer C S x) R P) (next n) y.0
-          (stands_shown P home (tabs_of C S x) (groups_of C (NLayer C S x) R P) (of_each (λ i. i.marks) (map (NI C S agrees) x.items) (inside P.sight (tabs_of C S x))) w) d y.1)
+      (outputs_give (shown_place P (tabs_of C S x) (groups_of C (NLayer C S x) R P)) home env holds x.items (wanted_of (NLayer C S x) R P) (next n) y.0
+      (stands_shown P home (tabs_of C S x) (groups_of C (NLayer C S x) R P) (of_each (λ i. i.marks) (map (NI C S agrees) x.items) (inside P.sight (tabs_of C S x))) w) d y.1)
 
   -- a query whose outputs are of these kinds wherever a frame holds for its select list
   abbrev pub QueryLaw : typed.Answers → meant.Answers → Days → Type 0
@@ -156,25 +146,26 @@ module _ (C : Catalogue) (S : Setting) (agrees : AgreesOn C S) where
       let shown : Marks = of_each (λ i. i.marks) (map (NI C S agrees) x.items) v in
       let more : Marks = chains_marks P.sight (calls_of (tabs_of C S x)) [] (map typed.chain_marked (NLayer C S x).from) ++ (of_any (λ c. c.marks) (NLayer C S x).filter v ++ (map (column v.seen) x.group ++ of_any (λ c. c.marks) (NLayer C S x).having v)) in
       listed_gives x R P home env n ks (kinds_listed x R P n ks j e) holds (stands_first C P home shown more (stands_second C P home (enter (items_in P.sight.seen (tabs_of C S x)) ∷ []) (shown ++ more) w))
-        (days_first (all_of (map (DI C S agrees) x.items)) (all_of (DLayer x).from ++ (if_given (DLayer x).filter ++ if_given (DLayer x).having)) d)
+      (days_first (all_of (map (DI C S agrees) x.items)) (all_of (DLayer x).from ++ (if_given (DLayer x).filter ++ if_given (DLayer x).having)) d)
 
   pub query_law : (q : Query) → QueryLaw (query_of typed.typing (typed_steps C) q) (query_of meant.meaning (steps S) q) (query_of writing day_steps q)
   query_law q =
       subst (λ m. QueryLaw m (query_of meant.meaning (steps S) q) (query_of writing day_steps q)) (sym (query_out typed.typing (typed_steps C) q))
-        (subst (λ w. QueryLaw (typed_query_step C (NLayer C S (out-Query q))) w (query_of writing day_steps q)) (sym (query_out meant.meaning (steps S) q))
-          (subst (λ d. QueryLaw (typed_query_step C (NLayer C S (out-Query q))) (query_step (VLayer C S (out-Query q))) d) (sym (query_out writing day_steps q)) (query_layer_law (out-Query q))))
+      (subst (λ w. QueryLaw (typed_query_step C (NLayer C S (out-Query q))) w (query_of writing day_steps q)) (sym (query_out meant.meaning (steps S) q))
+      (subst (λ d. QueryLaw (typed_query_step C (NLayer C S (out-Query q))) (query_step (VLayer C S (out-Query q))) d) (sym (query_out writing day_steps q)) (query_layer_law (out-Query q))))
 
   each_frame : (q : Query) (P : Place) (home : Option ℕ) → StandsIn C P home ((query_of typed.typing (typed_steps C) q).marks P.sight) → AreDays (query_of writing day_steps q)
       → (R : typed.Role) (n j : ℕ) (ks : List Kind) → (query_of typed.typing (typed_steps C) q).kinds R P n ≡ Ok (ks, j) → (env : Env) (frames : List Frame)
       → AllByRecursion (λ f. HoldsFor C S ((query_of typed.typing (typed_steps C) q).shown R P) home (f ∷ env)) frames
       → AllByRecursion (λ f. GivesKinds S.policies ks (outputs (query_of meant.meaning (steps S) q).items (f ∷ env)) × GivesKinds S.policies ks (outputs (query_of meant.meaning (steps S) q).items (shown_frame f ∷ env))) frames
   each_frame q P home w d R n j ks e env [] h = tt
-  each_frame q P home w d R n j ks e env (f ∷ frames) h =
-      ((query_law q P home w d R n j ks e (f ∷ env) h.0, query_law q P home w d R n j ks e (shown_frame f ∷ env) (shown_holds C S ((query_of typed.typing (typed_steps C) q).shown R P) home f env h.0)),
-       each_frame q P home w d R n j ks e env frames h.1)
+  each_frame q P home w d R n j ks e env (f ∷ frames) h = (
+    (query_law q P home w d R n j ks e (f ∷ env) h.0, query_law q P home w d R n j ks e (shown_frame f ∷ env) (shown_holds C S ((query_of typed.typing (typed_steps C) q).shown R P) home f env h.0)),
+    each_frame q P home w d R n j ks e env frames h.1,
+  )
 
 pub outputs_fit : OutputsGiveTheirKinds
 unfolding typed_query answers days_in_query
 outputs_fit C S agrees P home env holds below q w d R n m ks e frames f =
     each_frame C S agrees q P home w d R n m ks e env frames
-      (subst (λ x. GivesAll (λ f. HoldsFor C S ((query_of typed.typing (typed_steps C) q).shown R P) home (f ∷ env)) x) f (query_stood C S agrees P home env holds below q R))
+    (subst (λ x. GivesAll (λ f. HoldsFor C S ((query_of typed.typing (typed_steps C) q).shown R P) home (f ∷ env)) x) f (query_stood C S agrees P home env holds below q R))

@@ -1,6 +1,5 @@
 -- Rows of FROM: each joined row has a row of each table, whichever conditions are true.
-use Rattle.std.proofs.Common.{ℕ, zero, suc, ◌≡◌, refl, sym, subst, ap, Bool, true, false, List, [], ◌∷◌, ◌++◌, map, fold, Option, Some, None, Result, Ok, Err, if◌then◌else◌, unwrap_or, append_assoc, append-nil}
-use Rattle.std.specs.Prelude.{filter, not}
+use Rattle.std.proofs.Common.{ℕ, zero, suc, ◌≡◌, refl, sym, subst, Bool, true, false, List, [], ◌∷◌, ◌++◌, map, fold, Option, Some, None, Ok, Err, if◌then◌else◌, unwrap_or, append_assoc, append-nil}
 use Rattle.std.specs.List.{AllZip, AllByRecursion, flat_map}
 use Rattle.lb_base.specs.declared.value.Value.{Value}
 use Rattle.lb_base.specs.declared.value.Value.TheVariants as values
@@ -10,17 +9,16 @@ use Rattle.lb_base.specs.Evaluated.{Evaluated, ◌>>=◌, each, passing}
 use Rattle.lb_base.specs.Truths.{is_true}
 use Rattle.lb_tree.specs.declared.query.Column.{Column}
 use Rattle.lb_tree.specs.declared.query.Tab.{Tab}
-use Rattle.lb_names.specs.Sights.{Name, correlation, or_name}
+use Rattle.lb_names.specs.Sights.{Name, or_name}
 use Rattle.lb_names.specs.Marks.{JoinMarks, ChainMarks, tables_of_chain, tables_of}
-use Rattle.lb_names.specs.Scopes.{Field, Catalogue, listed, columns_of}
-use Rattle.lb_names.specs.Carriers as typed
-use Rattle.lb_mean.specs.Setting.{Setting, Source, SeenColumn, Piece, JoinedRow, Frame, Env, row_frame, given}
+use Rattle.lb_names.specs.Scopes.{Field, Catalogue, columns_of}
+use Rattle.lb_mean.specs.Setting.{Setting, SeenColumn, Piece, JoinedRow, Env, row_frame, given}
 use Rattle.lb_mean.specs.Environment.{column_value}
 use Rattle.lb_mean.specs.Meant as meant
-use Rattle.lb_mean.specs.Joined.{correlation_of, piece, rows_seen, pieces, null_piece, beside, if_true, matches, or_nulls, inner, left, cross, follow, continued, joined_with, chain_rows, chain, in_front, combined, joined}
-use Rattle.lb_mean.specs.Queries.{one_more, kept, Keyed, Group, gather, gathered, keyed, first_row, group_frame}
+use Rattle.lb_mean.specs.Joined.{correlation_of, piece, rows_seen, pieces, null_piece, beside, if_true, matches, or_nulls, inner, left, cross, follow, continued, joined_with, chain, in_front, joined}
+use Rattle.lb_mean.specs.Queries.{one_more, kept, Keyed, Group, gather, gathered, keyed, first_row}
 use Rattle.lb_kinds.specs.HasKind.{Policies, IfResult}
-use Rattle.lb_kinds.specs.Agreement.{SameName, RowFits, CellsFit, SourceFits, AgreesOn}
+use Rattle.lb_kinds.specs.Agreement.{SameName, RowFits, CellsFit, AgreesOn}
 use Rattle.lb_kinds.specs.Standing.{PieceFits, JoinedFits}
 use Rattle.lb_kinds.proofs.Values.{null_fits}
 
@@ -113,7 +111,7 @@ module _ (C : Catalogue) (S : Setting) (agrees : AgreesOn C S) where
   matches_fit : (tabs : List Tab) (row : JoinedRow) (tab : Tab) (on : meant.Says) (env : Env) → Fits tabs row → AllByRecursion (OkFits (tabs ++ tab ∷ [])) (matches on env row (pieces (S.sources tab.table) tab))
   matches_fit tabs row tab on env h =
       all_flat (PieceFits C S tab) (OkFits (tabs ++ tab ∷ [])) (λ p. if_true (beside row p) (on.test (row_frame (beside row p) ∷ env))) (pieces (S.sources tab.table) tab)
-        (λ p g. true_fits (tabs ++ tab ∷ []) (beside row p) (on.test (row_frame (beside row p) ∷ env)) (beside_fits tabs row tab p h g)) (pieces_fit tab)
+      (λ p g. true_fits (tabs ++ tab ∷ []) (beside row p) (on.test (row_frame (beside row p) ∷ env)) (beside_fits tabs row tab p h g)) (pieces_fit tab)
 
   or_nulls_fit : (tabs : List Tab) (nulls : JoinedRow) (rows : List (Evaluated JoinedRow)) → Fits tabs nulls → AllByRecursion (OkFits tabs) rows → AllByRecursion (OkFits tabs) (or_nulls nulls rows)
   or_nulls_fit tabs nulls [] g h = (g, tt)
@@ -129,8 +127,8 @@ module _ (C : Catalogue) (S : Setting) (agrees : AgreesOn C S) where
   pub left_law : (tab : Tab) (on : meant.Says) → JoinLaw tab (left (S.sources tab.table) tab on)
   left_law tab on tabs env row h =
       or_nulls_fit (tabs ++ tab ∷ []) (beside row (null_piece (S.sources tab.table) tab)) (matches on env row (pieces (S.sources tab.table) tab))
-        (beside_fits tabs row tab (null_piece (S.sources tab.table) tab) h (piece_fits tab (map (λ c. values.Null) (S.sources tab.table).columns) (nulls_fit S.policies (columns_of C tab) (S.sources tab.table).columns (agrees.tables tab.table).columns)))
-        (matches_fit tabs row tab on env h)
+      (beside_fits tabs row tab (null_piece (S.sources tab.table) tab) h (piece_fits tab (map (λ c. values.Null) (S.sources tab.table).columns) (nulls_fit S.policies (columns_of C tab) (S.sources tab.table).columns (agrees.tables tab.table).columns)))
+      (matches_fit tabs row tab on env h)
 
   pub cross_law : (tab : Tab) → JoinLaw tab (cross (S.sources tab.table) tab)
   cross_law tab tabs env row h = all_mapped (PieceFits C S tab) (OkFits (tabs ++ tab ∷ [])) (λ p. Ok (beside row p)) (pieces (S.sources tab.table) tab) (λ p g. beside_fits tabs row tab p h g) (pieces_fit tab)
@@ -155,7 +153,7 @@ module _ (C : Catalogue) (S : Setting) (agrees : AgreesOn C S) where
   joins_fit (m ∷ ms) [] env tabs rows h g = absurd h
   joins_fit (m ∷ ms) (w ∷ ws) env tabs rows h g =
       subst (λ t. AllByRecursion (OkFits t) (fold (joined_with env) (joined_with env rows w) ws)) (append_assoc tabs (m.tab ∷ []) (map (λ j. j.tab) ms))
-        (joins_fit ms ws env (tabs ++ m.tab ∷ []) (joined_with env rows w) h.1 (continued_fits tabs (tabs ++ m.tab ∷ []) (w.rows env) (h.0 tabs env) rows g))
+      (joins_fit ms ws env (tabs ++ m.tab ∷ []) (joined_with env rows w) h.1 (continued_fits tabs (tabs ++ m.tab ∷ []) (w.rows env) (h.0 tabs env) rows g))
 
   -- a chain gives rows with a row of each of its tables
   abbrev pub ChainLaw : ChainMarks → meant.Chains → Type 0
@@ -164,7 +162,7 @@ module _ (C : Catalogue) (S : Setting) (agrees : AgreesOn C S) where
   pub chain_law : (first : Tab) (ms : List JoinMarks) (ws : List meant.Joins) → JoinsLaw ms ws → ChainLaw (record { first = first; joins = ms }) (chain (S.sources first.table) first ws)
   chain_law first ms ws h env =
       joins_fit ms ws env (first ∷ []) (map (λ p. Ok (p ∷ [])) (pieces (S.sources first.table) first)) h
-        (all_mapped (PieceFits C S first) (OkFits (first ∷ [])) (λ p. Ok (p ∷ [])) (pieces (S.sources first.table) first) (λ p g. (g, tt)) (pieces_fit first))
+      (all_mapped (PieceFits C S first) (OkFits (first ∷ [])) (λ p. Ok (p ∷ [])) (pieces (S.sources first.table) first) (λ p g. (g, tt)) (pieces_fit first))
 
   -- ---- FROM
 
@@ -178,8 +176,8 @@ module _ (C : Catalogue) (S : Setting) (agrees : AgreesOn C S) where
   joined_fits (m ∷ ms) [] env h = absurd h
   joined_fits (m ∷ ms) (w ∷ ws) env h =
       continued_fits (tables_of_chain m) (tables_of (m ∷ ms)) (λ row. map (in_front row) (joined ws env))
-        (λ row g. all_mapped (OkFits (tables_of ms)) (OkFits (tables_of (m ∷ ms))) (in_front row) (joined ws env) (front_fits (tables_of_chain m) (tables_of ms) row g) (joined_fits ms ws env h.1))
-        (w.rows env) (h.0 env)
+      (λ row g. all_mapped (OkFits (tables_of ms)) (OkFits (tables_of (m ∷ ms))) (in_front row) (joined ws env) (front_fits (tables_of_chain m) (tables_of ms) row g) (joined_fits ms ws env h.1))
+      (w.rows env) (h.0 env)
 
 -- ---- WHERE, GROUP BY and HAVING leave rows as they are
 

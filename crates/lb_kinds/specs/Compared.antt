@@ -56,4 +56,4 @@ ScalarHasOneKind = (C : Catalogue) (S : Setting) (env : Env) (by : Comparison) (
 abbrev pub RowsHaveOneKind : Type 0
 RowsHaveOneKind = (C : Catalogue) (S : Setting) (env : Env) (a : Expr) (q : Query) → TypedCond C S env (conds.InQuery a q)
     → (k : Kind) × GivesKind S.policies k (value_of S a env)
-      × ((rows : List (List Value)) → all_rows (answers S q) env ≡ Ok rows → AllByRecursion (λ row. HasKind S.policies k (first_output row)) rows)
+    × ((rows : List (List Value)) → all_rows (answers S q) env ≡ Ok rows → AllByRecursion (λ row. HasKind S.policies k (first_output row)) rows)

@@ -1,7 +1,11 @@
 // Laws over the definitions. Each is the contract of a function that does nothing.
 ghost use Rattle.lb_kinds.specs.Begins.{NothingHolds, TargetHolds, RowsHold, JoinedRowsFit};
 ghost use Rattle.lb_kinds.specs.Compared.{
-    ComparesOneKind, ListHasOneKind, BoundsHaveOneKind, ScalarHasOneKind, RowsHaveOneKind,
+  ComparesOneKind,
+  ListHasOneKind,
+  BoundsHaveOneKind,
+  ScalarHasOneKind,
+  RowsHaveOneKind,
 };
 ghost use Rattle.lb_kinds.specs.Laws.{ColumnsGiveTheirKind, ExpressionsGiveTheirKind, FramesHoldRows, OutputsGiveTheirKinds};
 
