@@ -17,3 +17,4 @@ mod Outputs
 mod Begins
 mod Compared
 mod Conditions
+mod Settings

@@ -5,3 +5,4 @@ pub mod Standing
 pub mod Laws
 pub mod Begins
 pub mod Compared
+pub mod Settings

@@ -8,6 +8,7 @@ ghost use Rattle.lb_kinds.specs.Compared.{
   RowsHaveOneKind,
 };
 ghost use Rattle.lb_kinds.specs.Laws.{ColumnsGiveTheirKind, ExpressionsGiveTheirKind, FramesHoldRows, OutputsGiveTheirKinds};
+ghost use Rattle.lb_kinds.specs.Settings.{TakenValuesFit, UnguardedAgrees, GuardedAgrees};
 
 /// A column that may stand at a place gives null or a value of its column's kind in an environment that holds rows for what is
 /// in sight there, or the fault of a mask.
@@ -50,4 +51,16 @@ pub fn typed_conditions_compare_values_of_one_kind()
     ensures bounds { BoundsHaveOneKind }
     ensures scalar { ScalarHasOneKind }
     ensures rows { RowsHaveOneKind }
+{}
+
+/// A value of a kind that a column takes is null or of the column's kind.
+pub fn taken_values_have_their_columns_kind()
+    ensures { TakenValuesFit }
+{}
+
+/// The settings in which stored conditions and statements are evaluated agree with a catalogue of names that knows the same
+/// tables, where rows and labels fit the catalogue, and for statements the CASE of each mask that is enabled is well typed.
+pub fn settings_agree_with_names()
+    ensures stored { UnguardedAgrees }
+    ensures statements { GuardedAgrees }
 {}
