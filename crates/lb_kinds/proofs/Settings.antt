@@ -1,31 +1,30 @@
 -- The settings of statements and of stored conditions agree with the catalogue of names.
-use Rattle.std.proofs.Common.{ℕ, zero, suc, ◌+◌, ◌≡◌, refl, sym, subst, ap, ◌∙◌, Bool, true, false, ℤ, List, [], ◌∷◌, map, Option, Some, None, Result, Ok, Err, add-suc, suc-add, add-zero, slice_get, arith, bytes_eq, if◌then◌else◌}
+use Rattle.std.proofs.Common.{ℕ, suc, ◌+◌, ◌≡◌, refl, sym, subst, ap, ◌∙◌, Bool, true, false, ℤ, List, [], ◌∷◌, map, Option, Some, None, Ok, add-zero, slice_get, arith, bytes_eq, if◌then◌else◌}
 use Rattle.std.specs.List.{AllZip, AllByRecursion}
 use Rattle.lb_base.specs.declared.value.Value.{Value}
-use Rattle.lb_base.specs.declared.value.Value.TheVariants as values
 use Rattle.lb_base.specs.declared.key.Ty.{Ty}
 use Rattle.lb_base.specs.declared.key.Ty.TheVariants as types
 use Rattle.lb_base.specs.declared.fault.Fault.{Fault}
 use Rattle.lb_base.specs.Days.{IsDay}
-use Rattle.lb_base.specs.Evaluated.{Evaluated, passing}
+use Rattle.lb_base.specs.Evaluated.{Evaluated}
 use Rattle.lb_cat.specs.declared.catalog.ColumnRec.{ColumnRec}
 use Rattle.lb_cat.specs.declared.catalog.MaskRec.{MaskRec}
 use Rattle.lb_cat.specs.declared.cred.Cred.{Cred}
 use Rattle.lb_cat.specs.Catalog.{Cat, Table, table_named, policy_named}
 use Rattle.lb_rows.specs.Tables.{Tables, rows_of}
 use Rattle.lb_names.specs.Sights.{Name}
-use Rattle.lb_names.specs.Kinds.{Kind, Common, null, integer, text, date, label, one, differ, both, is_one, takes}
+use Rattle.lb_names.specs.Kinds.{Kind, Common, null, integer, text, date, label, one, differ, both, is_one}
 use Rattle.lb_names.specs.Scopes.{Field, Catalogue, listed}
 use Rattle.lb_names.specs.Statements.{stored_place}
-use Rattle.lb_mean.specs.Setting.{Setting, SeenColumn, Source, Piece, given}
+use Rattle.lb_mean.specs.Setting.{Setting, given}
 use Rattle.lb_mean.specs.Meaning.{value_of}
-use Rattle.lb_mean.specs.Visible.{plain_column, whole_source, unguarded, guarded, mask_at, alone, seen_column, seen_columns, is_visible, shown_value, shown_from, shown_values, visible_source}
+use Rattle.lb_mean.specs.Visible.{plain_column, whole_source, unguarded, mask_at, alone, seen_column, is_visible, shown_value, shown_from, visible_source}
 use Rattle.lb_kinds.specs.HasKind.{Policies, HasKind, GivesKind}
-use Rattle.lb_kinds.specs.Agreement.{SameName, RowFits, CellsFit, SourceFits, LabelsFit, AgreesOn}
+use Rattle.lb_kinds.specs.Agreement.{SameName, RowFits, CellsFit, SourceFits}
 use Rattle.lb_kinds.specs.Standing.{PieceFits}
 use Rattle.lb_kinds.specs.Settings.{kind_of, TakenValuesFit, columns_in, SameColumn, Knows, masked, MaskFits, MasksFit, UnguardedAgrees, GuardedAgrees}
-use Rattle.lb_kinds.proofs.Results.{same_ok, no_err, no_false, no_none}
-use Rattle.lb_kinds.proofs.Values.{Has, Gives, Within, null_within, both_within, same_one, no_differ, gives_within}
+use Rattle.lb_kinds.proofs.Results.{same_ok, no_false}
+use Rattle.lb_kinds.proofs.Values.{Within, both_within, same_one, no_differ, gives_within}
 use Rattle.lb_kinds.proofs.Expressions.{expressions_give}
 use Rattle.lb_kinds.proofs.Begins.{target_holds}
 use Rattle.lb_kinds.proofs.Rows.{GivesAll, passing_all}
@@ -129,9 +128,9 @@ module _ (K : Catalogue) (C : Cat) (c : Cred) (T : Tables) (day : ℤ) (knows : 
       → GivesKind (policy_named C) (kind_of ty) (value_of W m.value (alone m.correlation t row))
   mask_gives n t m ty row e h f =
       gives_within (policy_named C) f.kind (kind_of ty) (λ v. taken_fits (policy_named C) ty f.kind v f.takes) (value_of W m.value (alone m.correlation t row))
-        (expressions_give K W (unguarded_agrees K C c T day knows is_day) (stored_place (masked n m)) None (alone m.correlation t row)
-          (target_holds K W (stored_place (masked n m)) (masked n m) refl (record { correlation = m.correlation; columns = map plain_column t.columns; cells = given row; shown = given row }) (alone_fits n t m row e h))
-          m.value refl f.days 0 f.after f.kind f.typed)
+      (expressions_give K W (unguarded_agrees K C c T day knows is_day) (stored_place (masked n m)) None (alone m.correlation t row)
+      (target_holds K W (stored_place (masked n m)) (masked n m) refl (record { correlation = m.correlation; columns = map plain_column t.columns; cells = given row; shown = given row }) (alone_fits n t m row e h))
+      m.value refl f.days 0 f.after f.kind f.typed)
 
   shown_one : (n : Name) (t : Table) (row : List Value) (f : Field) (column : ColumnRec) (o : Option MaskRec) (v : Value) → table_named C n ≡ Some t → RowFits (policy_named C) (fields n) row → SameColumn f column
       → ((m : MaskRec) → o ≡ Some m → MaskFits K n m column.ty) → HasKind (policy_named C) f.kind v → GivesKind (policy_named C) f.kind (shown_value W t row o v)
@@ -148,9 +147,10 @@ module _ (K : Catalogue) (C : Cat) (c : Cred) (T : Tables) (day : ℤ) (knows : 
   shown_all n t row at [] columns (v ∷ vs) e h s masks g = absurd g
   shown_all n t row at (f ∷ fs) columns [] e h s masks g = absurd g
   shown_all n t row at (f ∷ fs) [] (v ∷ vs) e h s masks g = absurd s
-  shown_all n t row at (f ∷ fs) (column ∷ columns) (v ∷ vs) e h s masks g =
-      (shown_one n t row f column (mask_at t at) v e h s.0 (λ m p. masks 0 column m refl (ap (mask_at t) (add-zero at) ∙ p)) g.0,
-       shown_all n t row (suc at) fs columns vs e h s.1 (λ i k m p q. masks (suc i) k m p (ap (mask_at t) (at-suc at i) ∙ q)) g.1)
+  shown_all n t row at (f ∷ fs) (column ∷ columns) (v ∷ vs) e h s masks g = (
+    shown_one n t row f column (mask_at t at) v e h s.0 (λ m p. masks 0 column m refl (ap (mask_at t) (add-zero at) ∙ p)) g.0,
+    shown_all n t row (suc at) fs columns vs e h s.1 (λ i k m p q. masks (suc i) k m p (ap (mask_at t) (at-suc at i) ∙ q)) g.1,
+  )
     where
       at-suc : (a i : ℕ) → a + suc i ≡ suc a + i
       at-suc a i = omega arith

@@ -1,5 +1,5 @@
 -- The settings of statements and of stored conditions agree with a catalogue of names that knows the same tables.
-use Rattle.std.specs.Prelude.{ℕ, ◌≡◌, Bool, true, ℤ, List, [], Option, Some, None, Ok, slice_get}
+use Rattle.std.specs.Prelude.{ℕ, ◌≡◌, true, ℤ, List, [], Option, Some, None, Ok, slice_get}
 use Rattle.std.specs.List.{AllZip, AllByRecursion}
 use Rattle.lb_base.specs.declared.value.Value.{Value}
 use Rattle.lb_base.specs.declared.key.Ty.{Ty}
