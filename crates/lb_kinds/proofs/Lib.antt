@@ -18,3 +18,4 @@ mod Begins
 mod Compared
 mod Conditions
 mod Settings
+mod Given

@@ -6,3 +6,4 @@ pub mod Laws
 pub mod Begins
 pub mod Compared
 pub mod Settings
+pub mod Given

@@ -7,6 +7,7 @@ ghost use Rattle.lb_kinds.specs.Compared.{
   ScalarHasOneKind,
   RowsHaveOneKind,
 };
+ghost use Rattle.lb_kinds.specs.Given.{ValuesFit, AssignmentsFit, CheckedMasksFit};
 ghost use Rattle.lb_kinds.specs.Laws.{ColumnsGiveTheirKind, ExpressionsGiveTheirKind, FramesHoldRows, OutputsGiveTheirKinds};
 ghost use Rattle.lb_kinds.specs.Settings.{TakenValuesFit, UnguardedAgrees, GuardedAgrees};
 
@@ -63,4 +64,12 @@ pub fn taken_values_have_their_columns_kind()
 pub fn settings_agree_with_names()
     ensures stored { UnguardedAgrees }
     ensures statements { GuardedAgrees }
+{}
+
+/// Where the rules of types refuse nothing, each value of VALUES and each assignment of SET gives its column null or a value of the
+/// kind of the column's type, and a stored mask fits its column.
+pub fn typed_writes_give_values_of_their_columns()
+    ensures values { ValuesFit }
+    ensures assignments { AssignmentsFit }
+    ensures masks { CheckedMasksFit }
 {}
