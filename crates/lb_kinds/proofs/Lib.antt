@@ -11,6 +11,7 @@ mod Expressions
 mod Rows
 mod Totals
 mod Chains
+mod Listed
 mod Stars
 mod Frames
 mod Outputs
@@ -19,3 +20,4 @@ mod Compared
 mod Conditions
 mod Settings
 mod Given
+mod Inserted

@@ -1,5 +1,5 @@
 -- What the rules of types say of the values that writes give, and of stored masks.
-use Rattle.std.specs.Prelude.{ℕ, ◌≡◌, List, [], ◌∷◌, map, Option, Some, None, Ok}
+use Rattle.std.specs.Prelude.{ℕ, ◌≡◌, List, [], ◌∷◌, map, Some, None, Ok}
 use Rattle.std.specs.List.{AllZip, AllByRecursion}
 use Rattle.lb_base.specs.declared.key.Ty.{Ty}
 use Rattle.lb_tree.specs.declared.query.Expr.{Expr}

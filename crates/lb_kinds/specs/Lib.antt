@@ -7,3 +7,4 @@ pub mod Begins
 pub mod Compared
 pub mod Settings
 pub mod Given
+pub mod Inserted

@@ -8,6 +8,7 @@ ghost use Rattle.lb_kinds.specs.Compared.{
   RowsHaveOneKind,
 };
 ghost use Rattle.lb_kinds.specs.Given.{ValuesFit, AssignmentsFit, CheckedMasksFit};
+ghost use Rattle.lb_kinds.specs.Inserted.{InsertedRowsFit};
 ghost use Rattle.lb_kinds.specs.Laws.{ColumnsGiveTheirKind, ExpressionsGiveTheirKind, FramesHoldRows, OutputsGiveTheirKinds};
 ghost use Rattle.lb_kinds.specs.Settings.{TakenValuesFit, UnguardedAgrees, GuardedAgrees};
 
@@ -66,10 +67,11 @@ pub fn settings_agree_with_names()
     ensures statements { GuardedAgrees }
 {}
 
-/// Where the rules of types refuse nothing, each value of VALUES and each assignment of SET gives its column null or a value of the
-/// kind of the column's type, and a stored mask fits its column.
+/// Where the rules of types refuse nothing, each value of VALUES, each assignment of SET and each row of the query of an INSERT
+/// gives its column null or a value of the kind of the column's type, and a stored mask fits its column.
 pub fn typed_writes_give_values_of_their_columns()
     ensures values { ValuesFit }
     ensures assignments { AssignmentsFit }
+    ensures query { InsertedRowsFit }
     ensures masks { CheckedMasksFit }
 {}
