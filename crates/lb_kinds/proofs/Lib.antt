@@ -21,3 +21,4 @@ mod Conditions
 mod Settings
 mod Given
 mod Inserted
+mod Selected

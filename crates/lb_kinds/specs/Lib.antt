@@ -8,3 +8,4 @@ pub mod Compared
 pub mod Settings
 pub mod Given
 pub mod Inserted
+pub mod Selected

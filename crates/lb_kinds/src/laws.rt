@@ -10,6 +10,7 @@ ghost use Rattle.lb_kinds.specs.Compared.{
 ghost use Rattle.lb_kinds.specs.Given.{ValuesFit, AssignmentsFit, CheckedMasksFit};
 ghost use Rattle.lb_kinds.specs.Inserted.{InsertedRowsFit};
 ghost use Rattle.lb_kinds.specs.Laws.{ColumnsGiveTheirKind, ExpressionsGiveTheirKind, FramesHoldRows, OutputsGiveTheirKinds};
+ghost use Rattle.lb_kinds.specs.Selected.{SelectsGiveTheirKinds};
 ghost use Rattle.lb_kinds.specs.Settings.{TakenValuesFit, UnguardedAgrees, GuardedAgrees};
 
 /// A column that may stand at a place gives null or a value of its column's kind in an environment that holds rows for what is
@@ -74,4 +75,10 @@ pub fn typed_writes_give_values_of_their_columns()
     ensures assignments { AssignmentsFit }
     ensures query { InsertedRowsFit }
     ensures masks { CheckedMasksFit }
+{}
+
+/// Each output that a query statement without a broken node gives, after DISTINCT, ORDER BY and FETCH, is null or of the kind of its
+/// place in the select list, with masks or without, or a fault.
+pub fn typed_selects_give_outputs_of_their_kinds()
+    ensures { SelectsGiveTheirKinds }
 {}
