@@ -1,5 +1,5 @@
 -- What aggregates give where their argument gives values of its kind for each row of the group.
-use Rattle.std.proofs.Common.{ℕ, suc, ◌≡◌, ◌<◌, ◌≤◌, refl, sym, subst, ap, ◌∙◌, ◌⊎◌, inl, inr, ◌&&◌, ◌==◌, Bool, true, false, List, [], ◌∷◌, ◌++◌, Option, Some, None, Ok, Err, if◌then◌else◌, pos, length, arith, le_of_lt, le_of_eq, ne_eqb, ne_of_lt}
+use Rattle.std.proofs.Common.{ℕ, suc, ◌≡◌, ◌≤◌, sym, subst, ◌⊎◌, inl, inr, ◌==◌, Bool, true, false, List, [], ◌∷◌, Option, Some, Ok, if◌then◌else◌, pos, length, le_of_lt, le_of_eq, ne_eqb, ne_of_lt}
 use Rattle.std.specs.List.{AllByRecursion}
 use Rattle.lb_base.specs.declared.value.Value.{Value}
 use Rattle.lb_base.specs.declared.value.Value.TheVariants as values
@@ -13,7 +13,7 @@ use Rattle.lb_tree.specs.declared.query.Aggregate.{Aggregate}
 use Rattle.lb_tree.specs.declared.query.Aggregate.TheVariants as aggregates
 use Rattle.lb_names.specs.declared.place.Group.{Group}
 use Rattle.lb_names.specs.Sights.{level_in}
-use Rattle.lb_names.specs.Kinds.{Kind, Common, one, differ, integer, both, is_label, or_integer, aggregated}
+use Rattle.lb_names.specs.Kinds.{Kind, one, differ, integer, is_label, aggregated}
 use Rattle.lb_names.specs.Scopes.{Catalogue}
 use Rattle.lb_names.specs.Places.{Place, in_aggregate}
 use Rattle.lb_mean.specs.Setting.{Setting, JoinedRow, Frame, Env, row_frame}
@@ -21,8 +21,7 @@ use Rattle.lb_mean.specs.Environment.{group_of, outside}
 use Rattle.lb_mean.specs.Meant.{Means}
 use Rattle.lb_mean.specs.Aggregates.{over_rows, counted, noted, summed, better, more_of, aggregate}
 use Rattle.lb_kinds.specs.HasKind.{Policies}
-use Rattle.lb_kinds.specs.Standing.{Scopes, seen_in, level_of, IsSight, IsBarred, JoinedFits, FrameFits, FramesFit, HoldsFor}
-use Rattle.lb_kinds.proofs.Results.{no_false, no_true}
+use Rattle.lb_kinds.specs.Standing.{Scopes, seen_in, IsSight, IsBarred, JoinedFits, FramesFit, HoldsFor}
 use Rattle.lb_kinds.proofs.Values.{Has, Gives, null_fits, Within, same_one, no_differ, both_within, or_integer_within, gives_within, then_gives, value_then, sum_gives}
 
 module _ (policies : Policies) where

@@ -1,20 +1,11 @@
 -- Environments that hold where evaluation begins, and for joined rows.
-use Rattle.std.proofs.Common.{ℕ, ◌≡◌, refl, sym, subst, ap, inl, List, [], ◌∷◌, map, Option, None}
-use Rattle.std.specs.List.{AllByRecursion}
-use Rattle.lb_tree.specs.declared.query.Tab.{Tab}
-use Rattle.lb_tree.specs.declared.query.Query.{Query}
+use Rattle.std.proofs.Common.{ap, inl, [], ◌∷◌, map}
 use Rattle.lb_tree.specs.declared.query.Cond.TheViews.{out-Query}
 use Rattle.lb_tree.specs.Folds.{chain_of}
-use Rattle.lb_names.specs.Sights.{Name, Sight, nothing, items_in, level_in}
-use Rattle.lb_names.specs.StatementMarks.{over}
-use Rattle.lb_names.specs.Scopes.{Catalogue}
-use Rattle.lb_names.specs.Places.{Place}
 use Rattle.lb_names.specs.Carriers as typed
 use Rattle.lb_names.specs.Typing.{steps as typed_steps, chains as typed_chains}
-use Rattle.lb_mean.specs.Setting.{Setting, Piece, JoinedRow, Env, row_frame}
 use Rattle.lb_mean.specs.Meant as meant
 use Rattle.lb_mean.specs.Meaning.{steps, chains}
-use Rattle.lb_kinds.specs.Standing.{Scopes, IsSight, PieceFits, JoinedFits, FrameFits, HoldsFor}
 use Rattle.lb_kinds.specs.Begins.{NothingHolds, TargetHolds, RowsHold, JoinedRowsFit}
 use Rattle.lb_kinds.proofs.Rows.{joined_fits}
 use Rattle.lb_kinds.proofs.Chains.{chains_fit}

@@ -1,15 +1,8 @@
 -- Joins and chains of FROM, as they are written, give rows of their tables.
-use Rattle.std.proofs.Common.{◌≡◌, refl, sym, subst, List, [], ◌∷◌, map}
+use Rattle.std.proofs.Common.{sym, subst, List, [], ◌∷◌, map}
 use Rattle.std.specs.List.{AllZip}
-use Rattle.lb_tree.specs.declared.query.Cond.{Cond}
-use Rattle.lb_tree.specs.declared.query.Expr.{Expr}
-use Rattle.lb_tree.specs.declared.query.Item.{Item}
 use Rattle.lb_tree.specs.declared.query.Join.{Join}
-use Rattle.lb_tree.specs.declared.query.Arm.{Arm}
 use Rattle.lb_tree.specs.declared.query.Chain.{Chain}
-use Rattle.lb_tree.specs.declared.query.Choice.{Choice}
-use Rattle.lb_tree.specs.declared.query.Query.{Query}
-use Rattle.lb_tree.specs.declared.query.Signed.{Signed}
 use Rattle.lb_tree.specs.declared.query.Cond.TheOpen as layers
 use Rattle.lb_tree.specs.declared.query.Cond.TheViews.{roll-Join}
 use Rattle.lb_tree.specs.declared.query.Cond.TheFolds.{ind-Join}

@@ -1,44 +1,26 @@
 -- A condition without a broken node compares values of one kind.
-use Rattle.std.proofs.Common.{ℕ, ◌≡◌, refl, sym, subst, ap, ◌∙◌, Bool, true, false, List, [], ◌∷◌, ◌++◌, map, Option, Some, None, Result, Ok, Err, if◌then◌else◌}
+use Rattle.std.proofs.Common.{ℕ, ◌≡◌, refl, sym, subst, ap, ◌∙◌, Bool, true, false, List, [], ◌∷◌, Ok, Err, if◌then◌else◌}
 use Rattle.std.specs.List.{AllZip, AllByRecursion, list_any}
 use Rattle.lb_base.specs.declared.value.Value.{Value}
 use Rattle.lb_base.specs.Conditions.{is_same_row}
 use Rattle.lb_base.specs.Evaluated as evaluated
 use Rattle.lb_base.specs.Evaluated.{Evaluated, each}
 use Rattle.lb_tree.specs.declared.query.Comparison.{Comparison}
-use Rattle.lb_tree.specs.declared.query.Comparison.TheVariants as comparisons
-use Rattle.lb_tree.specs.declared.query.Expr.{Expr}
-use Rattle.lb_tree.specs.declared.query.Query.{Query}
-use Rattle.lb_tree.specs.declared.query.Cond.TheOpen as layers
-use Rattle.lb_tree.specs.Folds.{Layer, expr_of, query_of, cond_of}
-use Rattle.lb_tree.proofs.Opens.{cond_compare, cond_comparequery, cond_inquery, cond_inlist, cond_between}
-use Rattle.lb_names.specs.Kinds.{Kind, Common, one, differ, null, integer, text, date, label, both, with_kind, is_plain, is_compared_by}
-use Rattle.lb_names.specs.Marks.{Marks, of_each}
-use Rattle.lb_names.specs.Scopes.{Catalogue}
-use Rattle.lb_names.specs.Typed.{Typed, next, ◌>>=◌, only_if}
+use Rattle.lb_names.specs.Kinds.{Kind, Common, one, differ, both, with_kind, is_plain, is_compared_by}
+use Rattle.lb_names.specs.Typed.{next}
 use Rattle.lb_names.specs.Places.{Place}
 use Rattle.lb_names.specs.Carriers as typed
 use Rattle.lb_names.specs.Parts.{kind_of_all, kind_with, kind_of_two, kind_of_three, kind_with_all}
-use Rattle.lb_names.specs.Conditions.{of_plain, compared, first_kind, query_with, kind_with_query, compare_typed, in_list_typed, between_typed, cond_step}
-use Rattle.lb_names.specs.Typing.{steps as typed_steps, says as typed_cond}
-use Rattle.lb_mean.specs.Setting.{Setting, Frame, Env}
+use Rattle.lb_names.specs.Conditions.{of_plain, compared, first_kind, query_with, kind_with_query, compare_typed, in_list_typed, between_typed}
+use Rattle.lb_mean.specs.Setting.{Env}
 use Rattle.lb_mean.specs.Meant as meant
-use Rattle.lb_mean.specs.Conditions.{outputs, different_rows, all_rows, first_output, only_row, scalar}
-use Rattle.lb_mean.specs.Meaning.{steps, means, answers}
-use Rattle.lb_kinds.specs.HasKind.{Policies, HasKind, HasKinds, GivesKinds}
-use Rattle.lb_kinds.specs.Days.{Days, AreDays, all_of, writing, day_steps, days_in_cond}
-use Rattle.lb_kinds.specs.Agreement.{AgreesOn}
-use Rattle.lb_kinds.specs.Standing.{StandsIn, IsBelow, HoldsFor}
-use Rattle.lb_kinds.specs.Compared.{TypedCond, ComparesOneKind, ListHasOneKind, BoundsHaveOneKind, ScalarHasOneKind, RowsHaveOneKind}
+use Rattle.lb_mean.specs.Conditions.{different_rows, first_output, only_row}
+use Rattle.lb_kinds.specs.HasKind.{Policies, HasKind, HasKinds}
 use Rattle.lb_kinds.proofs.Results.{same_ok, no_false}
-use Rattle.lb_kinds.proofs.Values.{Has, Gives, Within, InCommon, is_common, with_within, both_within, gives_within, null_fits}
-use Rattle.lb_kinds.proofs.Shares.{stands_first, stands_second, days_first, days_second}
+use Rattle.lb_kinds.proofs.Values.{Gives, Within, InCommon, is_common, with_within, both_within, gives_within, null_fits}
 use Rattle.lb_kinds.proofs.Typings.{Bound, bound, is_if}
 use Rattle.lb_kinds.proofs.Nodes.{PartGives}
-use Rattle.lb_kinds.proofs.Expressions.{all_good}
-use Rattle.lb_kinds.proofs.Rows.{GivesAll, all_then}
-use Rattle.lb_kinds.proofs.Frames.{query_stood}
-use Rattle.lb_kinds.proofs.Outputs.{query_law}
+use Rattle.lb_kinds.proofs.Rows.{GivesAll}
 
 -- ---- the kind that the parts have in common
 

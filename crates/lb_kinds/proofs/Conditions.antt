@@ -1,10 +1,9 @@
 -- The laws of comparisons, for whole conditions.
-use Rattle.std.proofs.Common.{ℕ, ◌≡◌, refl, sym, subst, ap, Bool, true, false, List, [], ◌∷◌, ◌++◌, map, Option, Some, None, Result, Ok, Err, if◌then◌else◌}
+use Rattle.std.proofs.Common.{ℕ, ◌≡◌, subst, true, false, List, [], ◌∷◌, ◌++◌, map, Option, Ok, Err, if◌then◌else◌}
 use Rattle.std.specs.List.{AllZip, AllByRecursion}
 use Rattle.lb_base.specs.declared.value.Value.{Value}
 use Rattle.lb_base.specs.Evaluated as evaluated
 use Rattle.lb_base.specs.Evaluated.{Evaluated, each}
-use Rattle.lb_tree.specs.declared.query.Comparison.{Comparison}
 use Rattle.lb_tree.specs.declared.query.Cond.{Cond}
 use Rattle.lb_tree.specs.declared.query.Cond.TheVariants as conds
 use Rattle.lb_tree.specs.declared.query.Expr.{Expr}
@@ -15,16 +14,16 @@ use Rattle.lb_names.specs.Sights.{Sight}
 use Rattle.lb_names.specs.Kinds.{Kind, Common, one, is_plain, is_compared_by}
 use Rattle.lb_names.specs.Marks.{Marks, of_each}
 use Rattle.lb_names.specs.Scopes.{Catalogue}
-use Rattle.lb_names.specs.Typed.{Typed, next}
+use Rattle.lb_names.specs.Typed.{next}
 use Rattle.lb_names.specs.Places.{Place}
 use Rattle.lb_names.specs.Carriers as typed
 use Rattle.lb_names.specs.Conditions.{of_plain, compared, first_kind, kind_with_query}
 use Rattle.lb_names.specs.Typing.{steps as typed_steps, says as typed_cond}
 use Rattle.lb_mean.specs.Setting.{Setting, Frame, Env}
 use Rattle.lb_mean.specs.Meant as meant
-use Rattle.lb_mean.specs.Conditions.{outputs, different_rows, all_rows, first_output}
+use Rattle.lb_mean.specs.Conditions.{outputs, different_rows, all_rows}
 use Rattle.lb_mean.specs.Meaning.{steps, means, answers}
-use Rattle.lb_kinds.specs.HasKind.{HasKind, HasKinds, GivesKind, GivesKinds}
+use Rattle.lb_kinds.specs.HasKind.{HasKinds, GivesKinds}
 use Rattle.lb_kinds.specs.Days.{Days, AreDays, all_of, writing, day_steps, days_in_cond}
 use Rattle.lb_kinds.specs.Agreement.{AgreesOn}
 use Rattle.lb_kinds.specs.Standing.{StandsIn, IsBelow, HoldsFor}

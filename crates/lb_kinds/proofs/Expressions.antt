@@ -1,5 +1,5 @@
 -- Every expression without a broken node gives null or a value of its kind.
-use Rattle.std.proofs.Common.{ℕ, ◌≡◌, refl, sym, subst, ap, Bool, true, false, ◌&&◌, List, [], ◌∷◌, ◌++◌, map, Option, Some, None, Result, Ok, Err, if◌then◌else◌}
+use Rattle.std.proofs.Common.{ℕ, ◌≡◌, refl, sym, subst, Bool, true, false, List, [], ◌∷◌, ◌++◌, map, Option, Some, None, Ok, Err, if◌then◌else◌}
 use Rattle.std.specs.List.{AllZip, AllByRecursion}
 use Rattle.lb_tree.specs.declared.query.Cond.{Cond}
 use Rattle.lb_tree.specs.declared.query.Expr.{Expr}
@@ -36,11 +36,11 @@ use Rattle.lb_kinds.specs.Days.{Days, AreDays, all_of, writing, day_steps, in_ex
 use Rattle.lb_kinds.specs.Agreement.{AgreesOn}
 use Rattle.lb_kinds.specs.Standing.{StandsIn, HoldsFor}
 use Rattle.lb_kinds.specs.Laws.{ExpressionsGiveTheirKind}
-use Rattle.lb_kinds.proofs.Results.{no_err, left_true, right_true}
-use Rattle.lb_kinds.proofs.Values.{Has, Gives}
+use Rattle.lb_kinds.proofs.Results.{no_err, right_true}
+use Rattle.lb_kinds.proofs.Values.{Gives}
 use Rattle.lb_kinds.proofs.Shares.{stands_first, stands_second, days_first, days_second}
 use Rattle.lb_kinds.proofs.Typings.{Bound, bound, is_one}
-use Rattle.lb_kinds.proofs.Nodes.{PartGives, AnyGives, ArmGives, ChoiceGives}
+use Rattle.lb_kinds.proofs.Nodes.{PartGives, ArmGives, ChoiceGives}
 use Rattle.lb_kinds.proofs.Aggregated.{EachGives, RowHolds, aggregate_gives, group_holds}
 use Rattle.lb_kinds.proofs.Leaves.{atom_gives, sum_node, product_node, text_node, coalesce_node, case_node, match_node, substr_node, apply_node}
 

@@ -1,8 +1,8 @@
 -- The frames of a query's rows and groups hold rows for what is in sight in its select list.
-use Rattle.std.proofs.Common.{ℕ, ◌≡◌, ◌<◌, refl, sym, subst, ap, ◌∙◌, ◌⊎◌, inl, inr, Bool, true, false, ◌||◌, ◌&&◌, ◌==◌, List, [], ◌∷◌, ◌++◌, map, Option, Some, None, Result, Ok, Err, if◌then◌else◌, option_map, ne_eqb, ne_of_gt, eqb-true, eq-eqb}
+use Rattle.std.proofs.Common.{ℕ, ◌≡◌, ◌<◌, refl, sym, subst, ap, ◌⊎◌, inl, inr, Bool, true, false, ◌||◌, ◌&&◌, ◌==◌, List, [], ◌∷◌, ◌++◌, map, Option, Some, None, Ok, if◌then◌else◌, option_map, ne_eqb, ne_of_gt, eq-eqb}
 use Rattle.std.specs.Prelude.{is_some as given}
-use Rattle.std.specs.List.{AllZip, AllByRecursion, list_any, flat_map}
-use Rattle.lb_base.specs.Evaluated.{Evaluated, ◌>>=◌, each, passing}
+use Rattle.std.specs.List.{AllByRecursion, list_any, flat_map}
+use Rattle.lb_base.specs.Evaluated.{◌>>=◌, each, passing}
 use Rattle.lb_tree.specs.declared.query.Column.{Column}
 use Rattle.lb_tree.specs.declared.query.Tab.{Tab}
 use Rattle.lb_tree.specs.declared.query.Cond.{Cond}
@@ -12,21 +12,20 @@ use Rattle.lb_tree.specs.declared.query.Cond.TheViews.{out-Query}
 use Rattle.lb_tree.specs.Folds.{Written, cond_of, item_of, chain_of, query_of}
 use Rattle.lb_tree.proofs.Opens.{query_out}
 use Rattle.lb_names.specs.declared.place.Group.{Group}
-use Rattle.lb_names.specs.declared.place.Seen.{Seen}
 use Rattle.lb_names.specs.Sights.{Sight, items_in, level_in, inside}
 use Rattle.lb_names.specs.Marks.{tables_of}
 use Rattle.lb_names.specs.Scopes.{Catalogue, is_some}
 use Rattle.lb_names.specs.Places.{Place, shown_place}
 use Rattle.lb_names.specs.Carriers as typed
 use Rattle.lb_names.specs.Typing.{steps as typed_steps, is_listed, has_groups, group_of, groups_of, query_step as typed_query_step, answers as typed_query}
-use Rattle.lb_mean.specs.Setting.{Setting, Piece, JoinedRow, Frame, Env, row_frame, shown_piece, shown_frame}
+use Rattle.lb_mean.specs.Setting.{Setting, JoinedRow, Frame, Env, row_frame, shown_piece, shown_frame}
 use Rattle.lb_mean.specs.Meant as meant
 use Rattle.lb_mean.specs.Conditions.{is_listed as any_listed}
 use Rattle.lb_mean.specs.Joined.{joined}
 use Rattle.lb_mean.specs.Queries as queries
 use Rattle.lb_mean.specs.Meaning.{steps, answers}
 use Rattle.lb_kinds.specs.Agreement.{AgreesOn}
-use Rattle.lb_kinds.specs.Standing.{Scopes, seen_in, own_in, level_of, IsSight, is_empty, is_bare, IsBarred, IsBelow, PieceFits, JoinedFits, FrameFits, FramesFit, HoldsFor}
+use Rattle.lb_kinds.specs.Standing.{Scopes, seen_in, IsSight, is_empty, is_bare, IsBarred, IsBelow, JoinedFits, FrameFits, FramesFit, HoldsFor}
 use Rattle.lb_kinds.specs.Laws.{FramesHoldRows}
 use Rattle.lb_kinds.proofs.Results.{no_false}
 use Rattle.lb_kinds.proofs.Rows.{GivesAll, all_then, any_then, all_mapped, kept_all, passing_all, keys_all, gathered_all, GroupHas, joined_fits}

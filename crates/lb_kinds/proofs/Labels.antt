@@ -1,13 +1,11 @@
 -- The label that a label text spells, and the labels of a policy's records, are labels of the policy's shape.
-use Rattle.std.proofs.Common.{ℕ, zero, suc, ◌+◌, ◌*◌, ◌^◌, ◌<◌, ◌≤◌, ◌≡◌, refl, sym, subst, ap, ◌∙◌, cond, Bool, true, false, List, [], ◌∷◌, map, length, sum, fold, Option, Some, None, Result, Ok, Err, bytes_eq, if◌then◌else◌, arith, add-one, le_trans, zero-le, pow-suc, add-suc, zero-add, add_comm, add_assoc, add-zero, le_refl}
+use Rattle.std.proofs.Common.{ℕ, zero, suc, ◌+◌, ◌^◌, ◌<◌, ◌≤◌, ◌≡◌, refl, sym, subst, ap, ◌∙◌, cond, Bool, true, false, List, [], ◌∷◌, map, length, sum, fold, Option, Some, None, Result, Ok, Err, bytes_eq, arith, add-one, zero-le, pow-suc, zero-add, add-zero, le_refl}
 use Rattle.std.specs.Prelude.{find, filter}
 use Rattle.std.specs.List.{AllZip, AllByRecursion, range_with_len}
-use Rattle.lb_base.specs.declared.value.Value.{Value}
-use Rattle.lb_base.specs.declared.value.Value.TheVariants as values
 use Rattle.lb_label.specs.declared.kind.ComponentKind.{ComponentKind}
 use Rattle.lb_label.specs.declared.kind.ComponentKind.TheVariants.{Set, Array, Tree}
 use Rattle.lb_label.specs.Component.{Definition, numbers}
-use Rattle.lb_label.specs.Label.{fits_in, IsPart, IsLabel}
+use Rattle.lb_label.specs.Label.{fits_in, IsLabel}
 use Rattle.lb_label.specs.LabelText.{named_in, is_named, elements_named, failing_in, in_front, unless_fails, read_parts, read_label}
 use Rattle.lb_cat.specs.declared.catalog.LabelRec.{LabelRec}
 use Rattle.lb_cat.specs.Catalog.{Policy, is_label}

@@ -1,5 +1,5 @@
 -- Expressions without parts give values of their kinds, and the nodes whose values are of one kind whatever their parts give.
-use Rattle.std.proofs.Common.{ℕ, ℤ, ◌≡◌, refl, sym, subst, ap, ◌&&◌, Bool, true, false, List, [], ◌∷◌, map, Option, Some, None, Result, Ok, Err, if◌then◌else◌, pos}
+use Rattle.std.proofs.Common.{ℕ, ◌≡◌, refl, subst, ap, ◌&&◌, Bool, true, false, List, [], map, Option, Ok, Err, if◌then◌else◌, pos}
 use Rattle.std.specs.List.{AllZip}
 use Rattle.lb_base.specs.declared.value.Value.{Value}
 use Rattle.lb_base.specs.declared.value.Value.TheVariants as values
@@ -8,32 +8,30 @@ use Rattle.lb_base.specs.Evaluated.{Evaluated, each}
 use Rattle.lb_base.specs.Texts.{substring}
 use Rattle.lb_tree.specs.declared.query.Atom.{Atom}
 use Rattle.lb_tree.specs.declared.query.Atom.TheVariants as atoms
-use Rattle.lb_tree.specs.declared.query.Column.{Column}
 use Rattle.lb_tree.specs.declared.query.Function.{Function}
 use Rattle.lb_names.specs.Kinds.{Kind, Common, one, null, integer, text, date, label, takes, argument, is_plain, is_one as is_common_kind}
-use Rattle.lb_names.specs.Marks.{atom_marks, column}
-use Rattle.lb_names.specs.Scopes.{Catalogue, Resolved, resolve}
+use Rattle.lb_names.specs.Marks.{atom_marks}
+use Rattle.lb_names.specs.Scopes.{Catalogue, resolve}
 use Rattle.lb_names.specs.Typed.{Typed, next, ◌>>=◌, only_if}
 use Rattle.lb_names.specs.Places.{Place}
 use Rattle.lb_names.specs.Carriers as typed
 use Rattle.lb_names.specs.Parts.{kind_of_all, kind_of_any, kind_of_arms, kind_of_results, kinds_of_choices, kinds_of_match}
 use Rattle.lb_names.specs.Expressions.{one_kind, plain_kind, kind_found, is_label_of, atom_kind, case_kind, match_kind, match_kind_of, plain_results, substr_kind, number_kind, substr_rest, substr_kind_of, function_kind, apply_kind}
 use Rattle.lb_mean.specs.Setting.{Setting, Env}
-use Rattle.lb_mean.specs.Environment.{column_value, atom_value, group_of, one_or_zero, has_one}
+use Rattle.lb_mean.specs.Environment.{column_value, atom_value, one_or_zero, has_one}
 use Rattle.lb_mean.specs.Labels.{label_to_char}
 use Rattle.lb_mean.specs.Meant as meant
-use Rattle.lb_mean.specs.Expressions.{all_values, Addend, addend, added, sum_value, multiplied, product_value, appended, text_value, first_true, first_equal, first_known, otherwise, or_null, if_written, substr_value, applied}
+use Rattle.lb_mean.specs.Expressions.{all_values, addend, added, sum_value, multiplied, product_value, appended, text_value, first_true, first_equal, first_known, otherwise, or_null, if_written, substr_value, applied}
 use Rattle.lb_kinds.specs.HasKind.{Policies}
 use Rattle.lb_kinds.specs.Days.{in_atom, AreDays}
 use Rattle.lb_kinds.specs.Agreement.{AgreesOn}
 use Rattle.lb_kinds.specs.Standing.{StandsIn, HoldsFor}
 use Rattle.lb_kinds.proofs.Results.{same_ok, no_err}
 use Rattle.lb_kinds.proofs.Lookups.{settled, column_fits}
-use Rattle.lb_kinds.proofs.Values.{Has, Gives, Within, InCommon, is_common, gives_within, then_gives, through_gives, sum_gives, product_gives, concatenated_fits, substring_fits, applied_fits, char_text_fits}
+use Rattle.lb_kinds.proofs.Values.{Gives, InCommon, is_common, gives_within, then_gives, through_gives, sum_gives, product_gives, concatenated_fits, substring_fits, applied_fits, char_text_fits}
 use Rattle.lb_kinds.proofs.Labels.{text_fits, named_fits}
-use Rattle.lb_kinds.proofs.Shares.{stands_second}
 use Rattle.lb_kinds.proofs.Typings.{Bound, bound, is_if, is_one, is_one_plain, all_common}
-use Rattle.lb_kinds.proofs.Nodes.{PartGives, AnyGives, ArmGives, ChoiceGives, GivesAny, coalesced, any_gives, arms_give, choices_give, or_else_gives}
+use Rattle.lb_kinds.proofs.Nodes.{PartGives, AnyGives, ArmGives, ChoiceGives, coalesced, any_gives, arms_give, choices_give, or_else_gives}
 
 -- ---- leaves
 

@@ -11,9 +11,14 @@ mod Expressions
 mod Rows
 mod Totals
 mod Chains
+mod Listed
 mod Stars
 mod Frames
 mod Outputs
 mod Begins
 mod Compared
 mod Conditions
+mod Settings
+mod Given
+mod Inserted
+mod Selected

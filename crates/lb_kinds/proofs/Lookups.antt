@@ -1,5 +1,5 @@
 -- A column that resolves at a place gives a value of its kind in an environment for that place.
-use Rattle.std.proofs.Common.{ℕ, ◌≡◌, refl, sym, subst, ap, ◌∙◌, ◌⊎◌, inl, inr, cond, not, ◌&&◌, ◌||◌, ◌==◌, Bool, true, false, List, [], ◌∷◌, ◌++◌, map, Option, Some, None, Result, Ok, Err, bytes_eq, if◌then◌else◌}
+use Rattle.std.proofs.Common.{ℕ, ◌≡◌, refl, sym, subst, ap, ◌∙◌, ◌⊎◌, inl, inr, cond, not, ◌&&◌, ◌||◌, ◌==◌, Bool, true, false, List, [], ◌∷◌, ◌++◌, map, Option, Some, None, Ok, Err, bytes_eq, if◌then◌else◌}
 use Rattle.std.specs.Prelude.{find}
 use Rattle.std.specs.List.{list_any, list_all, AllZip}
 use Rattle.std.specs.Option.{option_or}
@@ -22,9 +22,9 @@ use Rattle.lb_mean.specs.Setting.{Setting, SeenColumn, Piece, JoinedRow, Frame, 
 use Rattle.lb_mean.specs.Environment.{is_called, is_in, piece_of, cell_named, cell_in, column_value}
 use Rattle.lb_kinds.specs.HasKind.{Policies, GivesKind}
 use Rattle.lb_kinds.specs.Agreement.{SameName, CellsFit, AgreesOn}
-use Rattle.lb_kinds.specs.Standing.{Scopes, seen_in, is_empty, is_bare, IsBarred, StandsIn, PieceFits, JoinedFits, FrameFits, FramesFit, HoldsFor}
+use Rattle.lb_kinds.specs.Standing.{Scopes, seen_in, is_empty, is_bare, IsBarred, StandsIn, PieceFits, JoinedFits, FramesFit, HoldsFor}
 use Rattle.lb_kinds.specs.Laws.{ColumnsGiveTheirKind}
-use Rattle.lb_kinds.proofs.Results.{same_ok, no_err, same_some, no_none, no_false, no_true, left_true, right_true, either_true, not_true}
+use Rattle.lb_kinds.proofs.Results.{same_ok, no_err, same_some, no_none, no_false, no_true, left_true, right_true, either_true}
 
 -- ---- columns of one table
 

@@ -1,16 +1,15 @@
 -- What the nodes of expressions give where their parts give values of their kinds: CASE and COALESCE.
-use Rattle.std.proofs.Common.{ℕ, ◌≡◌, refl, sym, subst, ap, Bool, true, false, List, [], ◌∷◌, Option, Some, None, Result, Ok, Err, if◌then◌else◌}
+use Rattle.std.proofs.Common.{ℕ, ◌≡◌, sym, subst, Bool, true, false, List, [], ◌∷◌, Option, Some, None, Ok, Err, if◌then◌else◌}
 use Rattle.std.specs.List.{AllZip}
 use Rattle.lb_base.specs.declared.value.Value.{Value}
-use Rattle.lb_base.specs.declared.truth.Truth.{Truth}
 use Rattle.lb_base.specs.Compare.{equal_of}
 use Rattle.lb_base.specs.Conditions.{is_null}
 use Rattle.lb_base.specs.Evaluated.{Evaluated, ◌>>=◌}
 use Rattle.lb_base.specs.Truths.{is_true}
-use Rattle.lb_names.specs.Kinds.{Kind, Common, one, null, with_kind}
+use Rattle.lb_names.specs.Kinds.{Kind, Common, with_kind}
 use Rattle.lb_names.specs.Places.{Place}
 use Rattle.lb_names.specs.Carriers as typed
-use Rattle.lb_names.specs.Parts.{kind_of_all, kind_with, kind_of_any, kind_of_arm, kind_of_arms, and_kind, kinds_of_choice, kinds_of_choices}
+use Rattle.lb_names.specs.Parts.{kind_of_all, kind_of_any, kind_of_arm, kind_of_arms, and_kind, kinds_of_choice, kinds_of_choices}
 use Rattle.lb_mean.specs.Setting.{Env}
 use Rattle.lb_mean.specs.Meant as meant
 use Rattle.lb_mean.specs.Expressions.{or_null, if_written, first_true, first_equal, otherwise, first_known}

@@ -1,55 +1,43 @@
 -- The outputs of a query without a broken node are null or of the kinds of their places in the select list.
-use Rattle.std.proofs.Common.{ℕ, ◌≡◌, refl, sym, subst, ap, ◌∙◌, ◌⊎◌, inl, inr, cond, Bool, true, false, not, ◌||◌, ◌&&◌, List, [], ◌∷◌, ◌++◌, map, Option, Some, None, Result, Ok, Err, if◌then◌else◌, bytes_eq, append_assoc, append-nil, length, option_map}
-use Rattle.std.specs.Prelude.{filter}
-use Rattle.std.specs.List.{AllZip, AllByRecursion, list_any, list_all, flat_map}
+use Rattle.std.proofs.Common.{ℕ, ◌≡◌, sym, subst, ap, ◌∙◌, List, [], ◌∷◌, ◌++◌, map, Option, Some, None, Ok, Err, append_assoc, append-nil, length, option_map}
+use Rattle.std.specs.List.{AllZip, AllByRecursion, flat_map}
 use Rattle.lb_base.specs.declared.value.Value.{Value}
 use Rattle.lb_base.specs.Evaluated as evaluated
 use Rattle.lb_base.specs.Evaluated.{Evaluated, each}
 use Rattle.lb_tree.specs.declared.query.Tab.{Tab}
-use Rattle.lb_tree.specs.declared.query.Cond.{Cond}
-use Rattle.lb_tree.specs.declared.query.Expr.{Expr}
 use Rattle.lb_tree.specs.declared.query.Item.{Item}
-use Rattle.lb_tree.specs.declared.query.Join.{Join}
-use Rattle.lb_tree.specs.declared.query.Arm.{Arm}
-use Rattle.lb_tree.specs.declared.query.Chain.{Chain}
-use Rattle.lb_tree.specs.declared.query.Choice.{Choice}
 use Rattle.lb_tree.specs.declared.query.Query.{Query}
-use Rattle.lb_tree.specs.declared.query.Signed.{Signed}
 use Rattle.lb_tree.specs.declared.query.Cond.TheOpen as layers
-use Rattle.lb_tree.specs.declared.query.Cond.TheViews.{roll-Item, out-Query}
-use Rattle.lb_tree.specs.declared.query.Cond.TheFolds.{map-Item, ind-Item}
-use Rattle.lb_tree.specs.Folds.{Written, item_of, item_layer, chain_of, cond_of, query_of, expr_of}
-use Rattle.lb_tree.proofs.Opens.{item_roll, query_out}
-use Rattle.lb_names.specs.declared.place.Seen.{Seen}
+use Rattle.lb_tree.specs.declared.query.Cond.TheViews.{out-Query}
+use Rattle.lb_tree.specs.Folds.{Written, chain_of, cond_of, query_of}
+use Rattle.lb_tree.proofs.Opens.{query_out}
 use Rattle.lb_names.specs.declared.place.Group.{Group}
-use Rattle.lb_names.specs.Sights.{Name, Sight, correlation, at_level, items_in, level_in, inside, calls_of}
+use Rattle.lb_names.specs.Sights.{Sight, items_in, inside, calls_of}
 use Rattle.lb_names.specs.Kinds.{Kind}
-use Rattle.lb_names.specs.Marks.{Marks, star, enter, column, of_each, of_any, chains_marks}
-use Rattle.lb_names.specs.Scopes.{Field, Catalogue, columns_of, spot_of}
-use Rattle.lb_names.specs.Typed as typings
-use Rattle.lb_names.specs.Typed.{Typed, next, only_if}
-use Rattle.lb_names.specs.Places.{Place, filter_place, having_place, shown_place, is_free, all_free_of, all_free}
+use Rattle.lb_names.specs.Marks.{Marks, enter, column, of_each, of_any, chains_marks}
+use Rattle.lb_names.specs.Scopes.{Catalogue}
+use Rattle.lb_names.specs.Typed.{Typed, next}
+use Rattle.lb_names.specs.Places.{Place, shown_place}
 use Rattle.lb_names.specs.Carriers as typed
-use Rattle.lb_names.specs.SelectLists.{kinds_of_item, column_kinds, fit, star_fits, star_outputs, called, outputs_of, rest_of, chains_typed, item_step as typed_item_step}
-use Rattle.lb_names.specs.Typing.{steps as typed_steps, maybe_typed, group_typed, query_fits, wanted_of, groups_of, query_kinds, query_step as typed_query_step, answers as typed_query}
-use Rattle.lb_mean.specs.Setting.{Setting, Piece, JoinedRow, Frame, Env, shown_frame}
+use Rattle.lb_names.specs.SelectLists.{outputs_of, rest_of}
+use Rattle.lb_names.specs.Typing.{steps as typed_steps, wanted_of, groups_of, query_step as typed_query_step, answers as typed_query}
+use Rattle.lb_mean.specs.Setting.{Setting, Frame, Env, shown_frame}
 use Rattle.lb_mean.specs.Meant as meant
 use Rattle.lb_mean.specs.Conditions.{outputs}
-use Rattle.lb_mean.specs.Queries.{own_row, item_step, query_step}
+use Rattle.lb_mean.specs.Queries.{query_step}
 use Rattle.lb_mean.specs.Meaning.{steps, answers}
-use Rattle.lb_kinds.specs.HasKind.{Policies, HasKinds, GivesKinds}
-use Rattle.lb_kinds.specs.Days.{Days, AreDays, all_of, if_given, writing, day_steps, in_item_layer, in_query_layer, days_in_query}
-use Rattle.lb_kinds.specs.Agreement.{CellsFit, AgreesOn}
-use Rattle.lb_kinds.specs.Standing.{Scopes, seen_in, own_in, IsSight, IsBarred, StandsIn, IsBelow, PieceFits, JoinedFits, FrameFits, FramesFit, HoldsFor}
+use Rattle.lb_kinds.specs.HasKind.{Policies, GivesKinds}
+use Rattle.lb_kinds.specs.Days.{Days, AreDays, all_of, if_given, writing, day_steps, in_query_layer, days_in_query}
+use Rattle.lb_kinds.specs.Agreement.{AgreesOn}
+use Rattle.lb_kinds.specs.Standing.{StandsIn, HoldsFor}
 use Rattle.lb_kinds.specs.Laws.{OutputsGiveTheirKinds}
-use Rattle.lb_kinds.proofs.Results.{same_ok, no_false, left_true, right_true}
+use Rattle.lb_kinds.proofs.Results.{same_ok}
 use Rattle.lb_kinds.proofs.Values.{Gives}
-use Rattle.lb_kinds.proofs.Lookups.{grouped, free_outside}
 use Rattle.lb_kinds.proofs.Shares.{stands_first, stands_second, days_first, days_second}
-use Rattle.lb_kinds.proofs.Typings.{Bound, bound, is_if}
-use Rattle.lb_kinds.proofs.Expressions.{all_good}
+use Rattle.lb_kinds.proofs.Typings.{Bound, bound}
 use Rattle.lb_kinds.proofs.Rows.{zip_first, GivesAll}
 use Rattle.lb_kinds.proofs.Stars.{Each, NI, VI, DI, item_all}
+use Rattle.lb_kinds.proofs.Listed.{ListOf, kinds_listed}
 use Rattle.lb_kinds.proofs.Frames.{NLayer, VLayer, tabs_of, query_stood, shown_holds}
 
 -- ---- outputs, one after the other
@@ -103,43 +91,8 @@ module _ (C : Catalogue) (S : Setting) (agrees : AgreesOn C S) where
   abbrev DLayer : Written layers.Query-F → layers.Query-F Days Days Days Days Days Days Days Days Days
   DLayer x = record { distinct = x.distinct; items = map (DI C S agrees) x.items; from = map (chain_of writing day_steps) x.from; filter = option_map (cond_of writing day_steps) x.filter; group = x.group; having = option_map (cond_of writing day_steps) x.having }
 
-  -- the kinds of a query are those of its select list
-  abbrev ListOf : Written layers.Query-F → typed.Role → Place → ℕ → List Kind → Type 0
-  ListOf x R P n ks = (y : List Kind × ℕ) × (outputs_of (map (NI C S agrees) x.items) [] (wanted_of (NLayer C S x) R P) (shown_place P (tabs_of C S x) (groups_of C (NLayer C S x) R P)) (next n) ≡ Ok y) × (y.0 ≡ ks)
-
-  module _ (x : Written layers.Query-F) (R : typed.Role) (P : Place) (n : ℕ) where
-    abbrev L : layers.Query-F typed.Says typed.Means typed.Shows typed.Joins typed.Arms typed.Chains typed.Choices typed.Answers typed.Means
-    L = NLayer C S x
-
-    abbrev tabs : List Tab
-    tabs = tabs_of C S x
-
-    abbrev groups : List Group
-    groups = groups_of C L R P
-
-    abbrev from_having : List Kind × ℕ → Unit {0} × ℕ → Typed (List Kind)
-    from_having ks g = typings.◌>>=◌ (maybe_typed L.having (having_place P tabs groups) g.1) (λ h. only_if (query_fits R P ks.0) n (ks.0, h.1))
-
-    abbrev from_group : List Kind × ℕ → Unit {0} × ℕ → Typed (List Kind)
-    from_group ks w = typings.◌>>=◌ (group_typed C (filter_place P tabs) x.group w.1) (from_having ks)
-
-    abbrev from_filter : List Kind × ℕ → Unit {0} × ℕ → Typed (List Kind)
-    from_filter ks f = typings.◌>>=◌ (maybe_typed L.filter (filter_place P tabs) f.1) (from_group ks)
-
-    abbrev from_chains : List Kind × ℕ → Typed (List Kind)
-    from_chains ks = typings.◌>>=◌ (chains_typed P (calls_of tabs) L.from ks.1) (from_filter ks)
-
-    kinds_listed : (ks : List Kind) (j : ℕ) → query_kinds C L tabs groups R P n ≡ Ok (ks, j) → ListOf x R P n ks
-    kinds_listed ks j e =
-        let a : Bound (outputs_of (map (NI C S agrees) x.items) [] (wanted_of L R P) (shown_place P tabs groups) (next n)) from_chains (ks, j) = bound (outputs_of (map (NI C S agrees) x.items) [] (wanted_of L R P) (shown_place P tabs groups) (next n)) from_chains (ks, j) e in
-        let f : Bound (chains_typed P (calls_of tabs) L.from a.0.1) (from_filter a.0) (ks, j) = bound (chains_typed P (calls_of tabs) L.from a.0.1) (from_filter a.0) (ks, j) a.2 in
-        let w : Bound (maybe_typed L.filter (filter_place P tabs) f.0.1) (from_group a.0) (ks, j) = bound (maybe_typed L.filter (filter_place P tabs) f.0.1) (from_group a.0) (ks, j) f.2 in
-        let g : Bound (group_typed C (filter_place P tabs) x.group w.0.1) (from_having a.0) (ks, j) = bound (group_typed C (filter_place P tabs) x.group w.0.1) (from_having a.0) (ks, j) w.2 in
-        let h : Bound (maybe_typed L.having (having_place P tabs groups) g.0.1) (λ h. only_if (query_fits R P a.0.0) n (a.0.0, h.1)) (ks, j) = bound (maybe_typed L.having (having_place P tabs groups) g.0.1) (λ h. only_if (query_fits R P a.0.0) n (a.0.0, h.1)) (ks, j) g.2 in
-        (a.0, a.1, ap (λ y. y.0) (is_if (query_fits R P a.0.0) n (a.0.0, h.0.1) (ks, j) h.2).1)
-
   -- the select list of a query, where a frame of it is the innermost one
-  listed_gives : (x : Written layers.Query-F) (R : typed.Role) (P : Place) (home : Option ℕ) (env : Env) (n : ℕ) (ks : List Kind) → ListOf x R P n ks
+  listed_gives : (x : Written layers.Query-F) (R : typed.Role) (P : Place) (home : Option ℕ) (env : Env) (n : ℕ) (ks : List Kind) → ListOf C x R P n ks
       → HoldsFor C S (shown_place P (tabs_of C S x) (groups_of C (NLayer C S x) R P)) home env
       → StandsIn C P home (of_each (λ i. i.marks) (map (NI C S agrees) x.items) (inside P.sight (tabs_of C S x))) → AreDays (all_of (map (DI C S agrees) x.items)) → GivesKinds S.policies ks (outputs (map (VI C S agrees) x.items) env)
   listed_gives x R P home env n ks y holds w d =
@@ -157,7 +110,7 @@ module _ (C : Catalogue) (S : Setting) (agrees : AgreesOn C S) where
       let v : Sight = inside P.sight (tabs_of C S x) in
       let shown : Marks = of_each (λ i. i.marks) (map (NI C S agrees) x.items) v in
       let more : Marks = chains_marks P.sight (calls_of (tabs_of C S x)) [] (map typed.chain_marked (NLayer C S x).from) ++ (of_any (λ c. c.marks) (NLayer C S x).filter v ++ (map (column v.seen) x.group ++ of_any (λ c. c.marks) (NLayer C S x).having v)) in
-      listed_gives x R P home env n ks (kinds_listed x R P n ks j e) holds (stands_first C P home shown more (stands_second C P home (enter (items_in P.sight.seen (tabs_of C S x)) ∷ []) (shown ++ more) w))
+      listed_gives x R P home env n ks (kinds_listed C x R P n ks j e) holds (stands_first C P home shown more (stands_second C P home (enter (items_in P.sight.seen (tabs_of C S x)) ∷ []) (shown ++ more) w))
       (days_first (all_of (map (DI C S agrees) x.items)) (all_of (DLayer x).from ++ (if_given (DLayer x).filter ++ if_given (DLayer x).having)) d)
 
   pub query_law : (q : Query) → QueryLaw (query_of typed.typing (typed_steps C) q) (query_of meant.meaning (steps S) q) (query_of writing day_steps q)

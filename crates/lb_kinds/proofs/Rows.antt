@@ -1,6 +1,5 @@
 -- Rows of FROM: each joined row has a row of each table, whichever conditions are true.
-use Rattle.std.proofs.Common.{ℕ, zero, suc, ◌≡◌, refl, sym, subst, ap, Bool, true, false, List, [], ◌∷◌, ◌++◌, map, fold, Option, Some, None, Result, Ok, Err, if◌then◌else◌, unwrap_or, append_assoc, append-nil}
-use Rattle.std.specs.Prelude.{filter, not}
+use Rattle.std.proofs.Common.{ℕ, zero, suc, ◌≡◌, refl, sym, subst, Bool, true, false, List, [], ◌∷◌, ◌++◌, map, fold, Option, Some, None, Ok, Err, if◌then◌else◌, unwrap_or, append_assoc, append-nil}
 use Rattle.std.specs.List.{AllZip, AllByRecursion, flat_map}
 use Rattle.lb_base.specs.declared.value.Value.{Value}
 use Rattle.lb_base.specs.declared.value.Value.TheVariants as values
@@ -10,17 +9,16 @@ use Rattle.lb_base.specs.Evaluated.{Evaluated, ◌>>=◌, each, passing}
 use Rattle.lb_base.specs.Truths.{is_true}
 use Rattle.lb_tree.specs.declared.query.Column.{Column}
 use Rattle.lb_tree.specs.declared.query.Tab.{Tab}
-use Rattle.lb_names.specs.Sights.{Name, correlation, or_name}
+use Rattle.lb_names.specs.Sights.{Name, or_name}
 use Rattle.lb_names.specs.Marks.{JoinMarks, ChainMarks, tables_of_chain, tables_of}
-use Rattle.lb_names.specs.Scopes.{Field, Catalogue, listed, columns_of}
-use Rattle.lb_names.specs.Carriers as typed
-use Rattle.lb_mean.specs.Setting.{Setting, Source, SeenColumn, Piece, JoinedRow, Frame, Env, row_frame, given}
+use Rattle.lb_names.specs.Scopes.{Field, Catalogue, columns_of}
+use Rattle.lb_mean.specs.Setting.{Setting, SeenColumn, Piece, JoinedRow, Env, row_frame, given}
 use Rattle.lb_mean.specs.Environment.{column_value}
 use Rattle.lb_mean.specs.Meant as meant
-use Rattle.lb_mean.specs.Joined.{correlation_of, piece, rows_seen, pieces, null_piece, beside, if_true, matches, or_nulls, inner, left, cross, follow, continued, joined_with, chain_rows, chain, in_front, combined, joined}
-use Rattle.lb_mean.specs.Queries.{one_more, kept, Keyed, Group, gather, gathered, keyed, first_row, group_frame}
+use Rattle.lb_mean.specs.Joined.{correlation_of, piece, rows_seen, pieces, null_piece, beside, if_true, matches, or_nulls, inner, left, cross, follow, continued, joined_with, chain, in_front, joined}
+use Rattle.lb_mean.specs.Queries.{one_more, kept, Keyed, Group, gather, gathered, keyed, first_row}
 use Rattle.lb_kinds.specs.HasKind.{Policies, IfResult}
-use Rattle.lb_kinds.specs.Agreement.{SameName, RowFits, CellsFit, SourceFits, AgreesOn}
+use Rattle.lb_kinds.specs.Agreement.{SameName, RowFits, CellsFit, AgreesOn}
 use Rattle.lb_kinds.specs.Standing.{PieceFits, JoinedFits}
 use Rattle.lb_kinds.proofs.Values.{null_fits}
 

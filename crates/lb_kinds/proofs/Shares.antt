@@ -1,7 +1,6 @@
 -- What holds of the names and the days of a whole holds of its parts.
-use Rattle.std.proofs.Common.{ℕ, ℤ, ◌≡◌, refl, ◌&&◌, Bool, true, false, List, [], ◌∷◌, ◌++◌, Option, Some, None}
-use Rattle.std.specs.List.{AllByRecursion}
-use Rattle.lb_names.specs.Marks.{Mark, Marks}
+use Rattle.std.proofs.Common.{ℕ, ◌≡◌, refl, ◌&&◌, Bool, true, false, [], ◌∷◌, ◌++◌, Option, Some, None}
+use Rattle.lb_names.specs.Marks.{Marks}
 use Rattle.lb_names.specs.Scopes.{Catalogue}
 use Rattle.lb_names.specs.Passes.{all_own, is_own}
 use Rattle.lb_names.specs.Places.{Place}

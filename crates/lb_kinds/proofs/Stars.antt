@@ -1,53 +1,39 @@
 -- The outputs of an item of a select list, `*` included, are null or of their kinds.
-use Rattle.std.proofs.Common.{ℕ, ◌≡◌, refl, sym, subst, ap, ◌∙◌, ◌⊎◌, inl, inr, cond, Bool, true, false, not, ◌||◌, ◌&&◌, List, [], ◌∷◌, ◌++◌, map, Option, Some, None, Result, Ok, Err, if◌then◌else◌, bytes_eq, append_assoc, append-nil, length, option_map}
+use Rattle.std.proofs.Common.{ℕ, ◌≡◌, refl, sym, subst, ap, ◌∙◌, ◌⊎◌, inl, inr, cond, Bool, true, false, not, ◌||◌, ◌&&◌, List, [], ◌∷◌, ◌++◌, map, Option, Some, None, Ok, bytes_eq}
 use Rattle.std.specs.Prelude.{filter}
-use Rattle.std.specs.List.{AllZip, AllByRecursion, list_any, list_all, flat_map}
+use Rattle.std.specs.List.{AllZip, list_all, flat_map}
 use Rattle.lb_base.specs.declared.value.Value.{Value}
-use Rattle.lb_base.specs.Evaluated as evaluated
-use Rattle.lb_base.specs.Evaluated.{Evaluated, each}
+use Rattle.lb_base.specs.Evaluated.{Evaluated}
 use Rattle.lb_tree.specs.declared.query.Tab.{Tab}
-use Rattle.lb_tree.specs.declared.query.Cond.{Cond}
-use Rattle.lb_tree.specs.declared.query.Expr.{Expr}
 use Rattle.lb_tree.specs.declared.query.Item.{Item}
-use Rattle.lb_tree.specs.declared.query.Join.{Join}
-use Rattle.lb_tree.specs.declared.query.Arm.{Arm}
-use Rattle.lb_tree.specs.declared.query.Chain.{Chain}
-use Rattle.lb_tree.specs.declared.query.Choice.{Choice}
-use Rattle.lb_tree.specs.declared.query.Query.{Query}
-use Rattle.lb_tree.specs.declared.query.Signed.{Signed}
 use Rattle.lb_tree.specs.declared.query.Cond.TheOpen as layers
-use Rattle.lb_tree.specs.declared.query.Cond.TheViews.{roll-Item, out-Query}
-use Rattle.lb_tree.specs.declared.query.Cond.TheFolds.{map-Item, ind-Item}
-use Rattle.lb_tree.specs.Folds.{Written, item_of, item_layer, chain_of, cond_of, query_of, expr_of}
-use Rattle.lb_tree.proofs.Opens.{item_roll, query_out}
+use Rattle.lb_tree.specs.declared.query.Cond.TheViews.{roll-Item}
+use Rattle.lb_tree.specs.declared.query.Cond.TheFolds.{ind-Item}
+use Rattle.lb_tree.specs.Folds.{Written, item_of, item_layer, expr_of}
+use Rattle.lb_tree.proofs.Opens.{item_roll}
 use Rattle.lb_names.specs.declared.place.Seen.{Seen}
-use Rattle.lb_names.specs.declared.place.Group.{Group}
-use Rattle.lb_names.specs.Sights.{Name, Sight, correlation, at_level, items_in, level_in, inside, calls_of}
+use Rattle.lb_names.specs.Sights.{Name, correlation, at_level, items_in, level_in}
 use Rattle.lb_names.specs.Kinds.{Kind}
-use Rattle.lb_names.specs.Marks.{Marks, star, enter, column, of_each, of_any, chains_marks}
+use Rattle.lb_names.specs.Marks.{star}
 use Rattle.lb_names.specs.Scopes.{Field, Catalogue, columns_of, spot_of}
-use Rattle.lb_names.specs.Typed as typings
-use Rattle.lb_names.specs.Typed.{Typed, next, only_if}
-use Rattle.lb_names.specs.Places.{Place, filter_place, having_place, shown_place, is_free, all_free_of, all_free}
+use Rattle.lb_names.specs.Typed.{next, only_if}
+use Rattle.lb_names.specs.Places.{Place, is_free, all_free_of, all_free}
 use Rattle.lb_names.specs.Carriers as typed
-use Rattle.lb_names.specs.SelectLists.{kinds_of_item, column_kinds, fit, star_fits, star_outputs, called, outputs_of, rest_of, chains_typed, item_step as typed_item_step}
-use Rattle.lb_names.specs.Typing.{steps as typed_steps, maybe_typed, group_typed, query_fits, wanted_of, groups_of, query_kinds, query_step as typed_query_step, answers as typed_query}
-use Rattle.lb_mean.specs.Setting.{Setting, Piece, JoinedRow, Frame, Env, shown_frame}
+use Rattle.lb_names.specs.SelectLists.{kinds_of_item, column_kinds, fit, star_fits, star_outputs, called, item_step as typed_item_step}
+use Rattle.lb_names.specs.Typing.{steps as typed_steps}
+use Rattle.lb_mean.specs.Setting.{Setting, Piece, JoinedRow, Frame, Env}
 use Rattle.lb_mean.specs.Meant as meant
-use Rattle.lb_mean.specs.Conditions.{outputs}
-use Rattle.lb_mean.specs.Queries.{own_row, item_step, query_step}
-use Rattle.lb_mean.specs.Meaning.{steps, answers}
-use Rattle.lb_kinds.specs.HasKind.{Policies, HasKinds, GivesKinds}
-use Rattle.lb_kinds.specs.Days.{Days, AreDays, all_of, if_given, writing, day_steps, in_item_layer, in_query_layer, days_in_query}
+use Rattle.lb_mean.specs.Queries.{own_row, item_step}
+use Rattle.lb_mean.specs.Meaning.{steps}
+use Rattle.lb_kinds.specs.Days.{Days, AreDays, writing, day_steps, in_item_layer}
 use Rattle.lb_kinds.specs.Agreement.{CellsFit, AgreesOn}
-use Rattle.lb_kinds.specs.Standing.{Scopes, seen_in, own_in, IsSight, IsBarred, StandsIn, IsBelow, PieceFits, JoinedFits, FrameFits, FramesFit, HoldsFor}
-use Rattle.lb_kinds.proofs.Results.{same_ok, no_false, left_true, right_true}
+use Rattle.lb_kinds.specs.Standing.{Scopes, seen_in, own_in, IsBarred, StandsIn, PieceFits, JoinedFits, FramesFit, HoldsFor}
+use Rattle.lb_kinds.proofs.Results.{no_false, left_true, right_true}
 use Rattle.lb_kinds.proofs.Values.{Gives}
 use Rattle.lb_kinds.proofs.Lookups.{grouped, free_outside}
-use Rattle.lb_kinds.proofs.Shares.{stands_first, stands_second, days_first, days_second}
 use Rattle.lb_kinds.proofs.Typings.{Bound, bound, is_if}
 use Rattle.lb_kinds.proofs.Expressions.{all_good}
-use Rattle.lb_kinds.proofs.Rows.{zip_first, GivesAll}
+use Rattle.lb_kinds.proofs.Rows.{zip_first}
 
 module _ (C : Catalogue) (S : Setting) (agrees : AgreesOn C S) where
   abbrev pub Each : List Kind → List (Evaluated Value) → Type 0

@@ -1,5 +1,5 @@
 -- Typing and meaning agree on which nodes have an aggregate. tools/kind-totals writes this file.
-use Rattle.std.proofs.Common.{◌≡◌, refl, sym, subst, Bool, false, ◌||◌, List, [], ◌∷◌, map, Option, Some, None}
+use Rattle.std.proofs.Common.{◌≡◌, refl, sym, subst, Bool, false, ◌||◌, List, [], ◌∷◌, map, Some, None}
 use Rattle.std.specs.List.{list_any}
 use Rattle.lb_tree.specs.declared.query.Cond.{Cond}
 use Rattle.lb_tree.specs.declared.query.Expr.{Expr}

@@ -1,14 +1,14 @@
 -- Typings that break no rule, taken apart.
-use Rattle.std.proofs.Common.{ℕ, ◌≡◌, refl, sym, subst, ap, Bool, true, false, List, [], ◌∷◌, Option, Some, None, Result, Ok, Err, if◌then◌else◌}
+use Rattle.std.proofs.Common.{ℕ, ◌≡◌, refl, sym, subst, Bool, true, false, List, [], ◌∷◌, Ok, Err, if◌then◌else◌}
 use Rattle.lb_names.specs.Kinds.{Kind, Common, one, differ, with_kind, is_plain}
-use Rattle.lb_names.specs.Typed.{Typed, next, ◌>>=◌, only_if, one_of}
+use Rattle.lb_names.specs.Typed.{Typed, ◌>>=◌, only_if, one_of}
 use Rattle.lb_names.specs.Places.{Place}
 use Rattle.lb_names.specs.Carriers.{Means}
 use Rattle.lb_names.specs.Parts.{kind_of_all}
 use Rattle.lb_names.specs.Expressions.{one_kind, plain_kind}
 use Rattle.lb_kinds.specs.HasKind.{Policies}
 use Rattle.lb_kinds.proofs.Results.{same_ok, no_err}
-use Rattle.lb_kinds.proofs.Values.{InCommon, is_common, with_within}
+use Rattle.lb_kinds.proofs.Values.{InCommon, with_within}
 
 -- what a part has, and what follows from it
 abbrev pub Bound : {A B : Type 0} → Typed A → (A × ℕ → Typed B) → B × ℕ → Type 0

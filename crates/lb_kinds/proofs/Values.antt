@@ -1,15 +1,12 @@
 -- Values of a kind: kinds that others include, and what the operations on values give.
-use Rattle.std.proofs.Common.{ℕ, ℤ, ◌≡◌, refl, sym, subst, ap, ◌∙◌, ◌&&◌, Bool, true, false, List, [], ◌∷◌, map, Option, Some, None, Result, Ok, Err, bytes_eq, if◌then◌else◌, int_le, negsuc, pos, ◌+ℤ◌, ◌-ℤ◌, ◌*ℤ◌}
+use Rattle.std.proofs.Common.{ℤ, ◌≡◌, refl, sym, subst, ap, ◌∙◌, ◌&&◌, Bool, true, false, List, [], ◌∷◌, Option, Some, None, Ok, Err, bytes_eq, if◌then◌else◌, int_le, negsuc, pos, ◌+ℤ◌, ◌-ℤ◌, ◌*ℤ◌}
 use Rattle.std.proofs.lemmas.Slice.Eq.{bytes_eq-Decides}
-use Rattle.arrayvec.specs.ArrayVec.{ArrayVec}
 use Rattle.lb_base.specs.declared.value.Value.{Value}
 use Rattle.lb_base.specs.declared.value.Value.TheVariants as values
-use Rattle.lb_base.specs.declared.fault.Fault.{Fault}
 use Rattle.lb_base.specs.declared.fault.Fault.TheVariants.{Overflow}
 use Rattle.lb_base.specs.Arithmetic.{in_64_bits, sum_of, product_of}
-use Rattle.lb_base.specs.DateParts.{year_value, month_value, day_value}
 use Rattle.lb_base.specs.Evaluated.{Evaluated, ◌>>=◌, through}
-use Rattle.lb_base.specs.Texts.{concatenated, substring, char_count}
+use Rattle.lb_base.specs.Texts.{concatenated, substring}
 use Rattle.lb_tree.specs.declared.query.Function.{Function}
 use Rattle.lb_tree.specs.declared.query.Function.TheVariants as functions
 use Rattle.lb_cat.specs.declared.cred.Cred.{Cred}
@@ -19,7 +16,6 @@ use Rattle.lb_names.specs.Kinds.{Kind, Common, null, integer, text, date, label,
 use Rattle.lb_mean.specs.Labels.{label_to_char}
 use Rattle.lb_mean.specs.Expressions.{applied}
 use Rattle.lb_kinds.specs.HasKind.{Policies, HasKind, GivesKind}
-use Rattle.lb_kinds.proofs.Results.{no_false}
 
 -- ---- kinds in common
 

@@ -7,7 +7,7 @@ use Rattle.lb_base.specs.Days.{IsDay}
 use Rattle.lb_base.specs.Evaluated.{Evaluated}
 use Rattle.lb_label.specs.Label.{IsLabel}
 use Rattle.lb_cat.specs.Catalog.{Policy}
-use Rattle.lb_names.specs.Kinds.{Kind, null, integer, text, date, label}
+use Rattle.lb_names.specs.Kinds.{Kind, integer, text, date, label}
 
 -- policies by their names
 abbrev pub Policies : Type 0

@@ -1,12 +1,11 @@
 -- What expressions without a broken node give, and the outputs of queries.
-use Rattle.std.specs.Prelude.{ℕ, ◌≡◌, List, [], ◌∷◌, Option, Ok, map}
+use Rattle.std.specs.Prelude.{ℕ, ◌≡◌, List, [], ◌∷◌, Option, Ok}
 use Rattle.std.specs.List.{AllByRecursion}
-use Rattle.lb_base.specs.declared.value.Value.{Value}
 use Rattle.lb_tree.specs.declared.query.Column.{Column}
 use Rattle.lb_tree.specs.declared.query.Expr.{Expr}
 use Rattle.lb_tree.specs.declared.query.Query.{Query}
 use Rattle.lb_names.specs.Marks.{column}
-use Rattle.lb_names.specs.Kinds.{Kind, takes}
+use Rattle.lb_names.specs.Kinds.{Kind}
 use Rattle.lb_names.specs.Scopes.{Catalogue, resolve}
 use Rattle.lb_names.specs.Places.{Place}
 use Rattle.lb_names.specs.Carriers.{Role}
@@ -16,7 +15,7 @@ use Rattle.lb_mean.specs.Setting.{Setting, Frame, Env, shown_frame}
 use Rattle.lb_mean.specs.Environment.{column_value}
 use Rattle.lb_mean.specs.Conditions.{outputs}
 use Rattle.lb_mean.specs.Meaning.{value_of, answers}
-use Rattle.lb_kinds.specs.HasKind.{HasKind, GivesKind, GivesKinds}
+use Rattle.lb_kinds.specs.HasKind.{GivesKind, GivesKinds}
 use Rattle.lb_kinds.specs.Days.{days_in, days_in_query, AreDays}
 use Rattle.lb_kinds.specs.Agreement.{AgreesOn}
 use Rattle.lb_kinds.specs.Standing.{StandsIn, IsBelow, HoldsFor}

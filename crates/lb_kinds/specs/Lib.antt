@@ -5,3 +5,7 @@ pub mod Standing
 pub mod Laws
 pub mod Begins
 pub mod Compared
+pub mod Settings
+pub mod Given
+pub mod Inserted
+pub mod Selected

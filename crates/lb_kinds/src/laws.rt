@@ -7,7 +7,11 @@ ghost use Rattle.lb_kinds.specs.Compared.{
   ScalarHasOneKind,
   RowsHaveOneKind,
 };
+ghost use Rattle.lb_kinds.specs.Given.{ValuesFit, AssignmentsFit, CheckedMasksFit};
+ghost use Rattle.lb_kinds.specs.Inserted.{InsertedRowsFit};
 ghost use Rattle.lb_kinds.specs.Laws.{ColumnsGiveTheirKind, ExpressionsGiveTheirKind, FramesHoldRows, OutputsGiveTheirKinds};
+ghost use Rattle.lb_kinds.specs.Selected.{SelectsGiveTheirKinds};
+ghost use Rattle.lb_kinds.specs.Settings.{TakenValuesFit, UnguardedAgrees, GuardedAgrees};
 
 /// A column that may stand at a place gives null or a value of its column's kind in an environment that holds rows for what is
 /// in sight there, or the fault of a mask.
@@ -50,4 +54,31 @@ pub fn typed_conditions_compare_values_of_one_kind()
     ensures bounds { BoundsHaveOneKind }
     ensures scalar { ScalarHasOneKind }
     ensures rows { RowsHaveOneKind }
+{}
+
+/// A value of a kind that a column takes is null or of the column's kind.
+pub fn taken_values_have_their_columns_kind()
+    ensures { TakenValuesFit }
+{}
+
+/// The settings in which stored conditions and statements are evaluated agree with a catalogue of names that knows the same
+/// tables, where rows and labels fit the catalogue, and for statements the CASE of each mask that is enabled is well typed.
+pub fn settings_agree_with_names()
+    ensures stored { UnguardedAgrees }
+    ensures statements { GuardedAgrees }
+{}
+
+/// Where the rules of types refuse nothing, each value of VALUES, each assignment of SET and each row of the query of an INSERT
+/// gives its column null or a value of the kind of the column's type, and a stored mask fits its column.
+pub fn typed_writes_give_values_of_their_columns()
+    ensures values { ValuesFit }
+    ensures assignments { AssignmentsFit }
+    ensures query { InsertedRowsFit }
+    ensures masks { CheckedMasksFit }
+{}
+
+/// Each output that a query statement without a broken node gives, after DISTINCT, ORDER BY and FETCH, is null or of the kind of its
+/// place in the select list, with masks or without, or a fault.
+pub fn typed_selects_give_outputs_of_their_kinds()
+    ensures { SelectsGiveTheirKinds }
 {}

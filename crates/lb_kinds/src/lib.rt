@@ -5,6 +5,8 @@ mod laws;
 
 pub use laws::{
     columns_give_values_of_their_kind, evaluation_begins_with_rows_in_sight,
-    frames_hold_rows_in_sight, typed_conditions_compare_values_of_one_kind,
-    typed_expressions_give_values_of_their_kind, typed_queries_give_outputs_of_their_kinds,
+    frames_hold_rows_in_sight, settings_agree_with_names, taken_values_have_their_columns_kind,
+    typed_conditions_compare_values_of_one_kind, typed_expressions_give_values_of_their_kind,
+    typed_queries_give_outputs_of_their_kinds, typed_selects_give_outputs_of_their_kinds,
+    typed_writes_give_values_of_their_columns,
 };
