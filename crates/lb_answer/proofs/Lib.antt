@@ -1,0 +1,5 @@
+mod Chosen
+mod Doubled
+mod Fit
+mod Framed
+mod Left

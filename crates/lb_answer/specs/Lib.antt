@@ -1,0 +1,10 @@
+pub mod OrRefused
+pub mod Keys
+pub mod Basis
+pub mod Candidates
+pub mod Checks
+pub mod Writes
+pub mod Bases
+pub mod Before
+pub mod Answer
+pub mod Laws

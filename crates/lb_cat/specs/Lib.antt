@@ -1,0 +1,6 @@
+pub mod Catalog
+pub mod Credentials
+pub mod Holdings
+pub mod Keys
+pub mod Privileges
+pub mod Stamps

@@ -1,0 +1,22 @@
+//! The records of the catalogue and the entries of the journal: what a session is told of the catalogue, refusals, replies and
+//! answers.
+#![tactic(auto)]
+
+mod answer;
+mod catalog;
+mod cred;
+mod entry;
+mod laws;
+mod refusal;
+mod reply;
+
+pub use answer::{Answer, Mark};
+pub use catalog::{
+    ColumnRec, ColumnRecs, ComponentRec, Grant, Grants, Holding, Holdings, LabelRec, LabelRecs,
+    MaskRec, MaskRecs, PermissionRec, PermissionRecs, PolicyRec, Privileges, RoleRec, TableRec,
+    UserRec,
+};
+pub use cred::{Cred, CredLabel, CredLabels};
+pub use laws::records_are_bare;
+pub use refusal::{Flaw, LimitOf, NeededPrivilege, Refusal};
+pub use reply::{Reply, Verb};

@@ -1,0 +1,6 @@
+pub mod One
+pub mod Roots
+pub mod Stamps
+pub mod There
+pub mod Lasting
+pub mod Agreeing

@@ -1,0 +1,10 @@
+pub mod Engine
+pub mod Journal
+pub mod Laws
+pub mod Replay
+pub mod Roots
+pub mod Sections
+pub mod State
+pub mod Told
+pub mod Rules
+pub mod Lasting

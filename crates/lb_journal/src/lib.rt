@@ -1,0 +1,12 @@
+//! What a journal means: what stands after each entry, the reply at each place, what sessions are told of it, and what an
+//! engine promises.
+#![tactic(auto)]
+
+mod engine;
+mod laws;
+
+pub use engine::Engine;
+pub use laws::{
+    a_journal_has_one_replay, a_journal_leaves_a_state, a_statement_has_a_reply, right_plans_last,
+    root_stays, stamps_tell,
+};

@@ -1,0 +1,5 @@
+pub mod Framed
+pub mod Agreeing
+pub mod Meant
+pub mod Seen
+pub mod Stable

@@ -1,0 +1,260 @@
+-- Catalogues that agree on what a tree mentions give it the same types. tools/names-inductions writes this file.
+use Rattle.std.proofs.Common.{◌≡◌, refl, ap, sym, subst, ◌∙◌, List, [], ◌∷◌, ◌++◌, Bool, Option, Some, None, map}
+use Rattle.lb_tree.specs.declared.query.Cond.{Cond}
+use Rattle.lb_tree.specs.declared.query.Expr.{Expr}
+use Rattle.lb_tree.specs.declared.query.Item.{Item}
+use Rattle.lb_tree.specs.declared.query.Join.{Join}
+use Rattle.lb_tree.specs.declared.query.Arm.{Arm}
+use Rattle.lb_tree.specs.declared.query.Chain.{Chain}
+use Rattle.lb_tree.specs.declared.query.Choice.{Choice}
+use Rattle.lb_tree.specs.declared.query.Query.{Query}
+use Rattle.lb_tree.specs.declared.query.Signed.{Signed}
+use Rattle.lb_tree.specs.declared.query.Column.{Column}
+use Rattle.lb_tree.specs.declared.query.Cond.TheOpen as layers
+use Rattle.lb_tree.specs.declared.query.Cond.TheViews.{roll-Cond, roll-Expr, roll-Item, roll-Join, roll-Arm, roll-Chain, roll-Choice, roll-Query, roll-Signed}
+use Rattle.lb_tree.specs.declared.query.Cond.TheFolds.{map-Cond, map-Expr, map-Item, map-Join, map-Arm, map-Chain, map-Choice, map-Query, map-Signed, ind-Cond, ind-Expr, ind-Query}
+use Rattle.lb_tree.specs.Folds.{Written, cond_of, expr_of, item_of, join_of, arm_of, chain_of, choice_of, query_of, signed_of}
+use Rattle.lb_tree.proofs.Opens.{cond_roll, expr_roll, item_roll, join_roll, arm_roll, chain_roll, choice_roll, query_roll, signed_roll}
+use Rattle.lb_names.specs.Marks.{tables_of}
+use Rattle.lb_names.specs.Mentions.{Mentions, table, all_of, naming, naming_steps}
+use Rattle.lb_names.specs.Scopes.{Catalogue}
+use Rattle.lb_names.specs.Passes.{all_own}
+use Rattle.lb_names.specs.Places.{Place}
+use Rattle.lb_names.specs.Carriers.{Means, Says, Shows, Joins, Arms, Chains, Choices, Answers, typing, chain_marked}
+use Rattle.lb_names.specs.Expressions.{expr_step, arm_step, choice_step, signed_step}
+use Rattle.lb_names.specs.Conditions.{cond_step}
+use Rattle.lb_names.specs.SelectLists.{item_step, join_step, chain_step}
+use Rattle.lb_names.specs.Typing.{steps, query_step}
+use Rattle.lb_names.specs.Agreeing.{AgreeOn}
+use Rattle.lb_names.proofs.Sighted as s
+use Rattle.lb_names.proofs.Carried.{carried_expr, carried_chain}
+use Rattle.lb_names.proofs.AlikeLists as l
+use Rattle.lb_names.proofs.AlikeSteps as node
+use Rattle.lb_names.proofs.Mentioned.{m_expr, m_chain, n_cond, n_expr, n_item, n_join, n_arm, n_chain, n_choice, n_query, n_signed}
+
+module _ (C D : Catalogue) where
+  abbrev c_cond : Cond → Says
+  c_cond = cond_of typing (steps C)
+
+  abbrev d_cond : Cond → Says
+  d_cond = cond_of typing (steps D)
+
+  abbrev c_expr : Expr → Means
+  c_expr = expr_of typing (steps C)
+
+  abbrev d_expr : Expr → Means
+  d_expr = expr_of typing (steps D)
+
+  abbrev c_item : Item → Shows
+  c_item = item_of typing (steps C)
+
+  abbrev d_item : Item → Shows
+  d_item = item_of typing (steps D)
+
+  abbrev c_join : Join → Joins
+  c_join = join_of typing (steps C)
+
+  abbrev d_join : Join → Joins
+  d_join = join_of typing (steps D)
+
+  abbrev c_arm : Arm → Arms
+  c_arm = arm_of typing (steps C)
+
+  abbrev d_arm : Arm → Arms
+  d_arm = arm_of typing (steps D)
+
+  abbrev c_chain : Chain → Chains
+  c_chain = chain_of typing (steps C)
+
+  abbrev d_chain : Chain → Chains
+  d_chain = chain_of typing (steps D)
+
+  abbrev c_choice : Choice → Choices
+  c_choice = choice_of typing (steps C)
+
+  abbrev d_choice : Choice → Choices
+  d_choice = choice_of typing (steps D)
+
+  abbrev c_query : Query → Answers
+  c_query = query_of typing (steps C)
+
+  abbrev d_query : Query → Answers
+  d_query = query_of typing (steps D)
+
+  abbrev c_signed : Signed → Means
+  c_signed = signed_of typing (steps C)
+
+  abbrev d_signed : Signed → Means
+  d_signed = signed_of typing (steps D)
+
+  along : {A B : Type 0} (R : A → B → Type 0) (a c : A) (b d : B) → a ≡ c → b ≡ d → R c d → R a b
+  along R a c b d p q h = subst (λ z. R z b) (sym p) (subst (λ z. R c z) (sym q) h)
+
+  each : {X A B : Type 0} (R : A → B → Type 0) (F : X → A) (G : X → B) (g : X → Mentions) (xs : List ((x : X) × (AgreeOn C D (g x) → R (F x) (G x)))) → AgreeOn C D (all_of (map g (map (λ z. z.0) xs))) → l.Alls C D R (map F (map (λ z. z.0) xs)) (map G (map (λ z. z.0) xs))
+  each R F G g [] h = tt
+  each R F G g (x ∷ xs) h = (x.1 (s.front C D (g x.0) (all_of (map g (map (λ z. z.0) xs))) h), each R F G g xs (s.back C D (g x.0) (all_of (map g (map (λ z. z.0) xs))) h))
+
+  -- the tables of FROM are those of the marks
+  marks_path : (E : Catalogue) (cs : List Chain) → map chain_marked (map (chain_of typing (steps E)) cs) ≡ map m_chain cs
+  marks_path E [] = refl
+  marks_path E (c ∷ cs) = λ i. carried_chain E c i ∷ marks_path E cs i
+
+  tables_path : (cs : List Chain) → tables_of (map chain_marked (map c_chain cs)) ≡ tables_of (map chain_marked (map d_chain cs))
+  tables_path cs = ap (λ chains. tables_of chains) (marks_path C cs ∙ sym (marks_path D cs))
+
+  tables_there : (cs : List Chain) → AgreeOn C D (all_of (map n_chain cs)) → s.TabsAgree C D (tables_of (map chain_marked (map c_chain cs)))
+  tables_there cs h = subst (λ chains. s.TabsAgree C D (tables_of chains)) (sym (marks_path C cs)) (s.tables_agree C D (map m_chain cs) (s.from_chains C D cs h))
+
+  -- an aggregate's argument names columns of its own query in both or in neither
+  own_path : (e : Expr) → AgreeOn C D (n_expr e) → (P : Place) → l.PlaceAgrees C D P → all_own C P.sight.level ((c_expr e).marks P.sight) ≡ all_own D P.sight.level ((d_expr e).marks P.sight)
+  own_path e h P p = ap (all_own C P.sight.level) (carried_expr C e P.sight) ∙ node.own_same C D P.sight.level ((m_expr e).marks P.sight) (s.sighted_expr C D e h P.sight p.0) ∙ sym (ap (all_own D P.sight.level) (carried_expr D e P.sight))
+
+  abbrev GoodCond : Cond → Type 0
+  GoodCond x = AgreeOn C D (n_cond x) → l.AlikeSays C D (c_cond x) (d_cond x)
+
+  abbrev WithCond : Type 0
+  WithCond = (x : Cond) × GoodCond x
+
+  abbrev GoodExpr : Expr → Type 0
+  GoodExpr x = AgreeOn C D (n_expr x) → l.AlikeMeans C D (c_expr x) (d_expr x)
+
+  abbrev WithExpr : Type 0
+  WithExpr = (x : Expr) × GoodExpr x
+
+  abbrev GoodItem : Item → Type 0
+  GoodItem x = AgreeOn C D (n_item x) → l.AlikeShows C D (c_item x) (d_item x)
+
+  abbrev WithItem : Type 0
+  WithItem = (x : Item) × GoodItem x
+
+  abbrev GoodJoin : Join → Type 0
+  GoodJoin x = AgreeOn C D (n_join x) → l.AlikeJoins C D (c_join x) (d_join x)
+
+  abbrev WithJoin : Type 0
+  WithJoin = (x : Join) × GoodJoin x
+
+  abbrev GoodArm : Arm → Type 0
+  GoodArm x = AgreeOn C D (n_arm x) → l.AlikeArms C D (c_arm x) (d_arm x)
+
+  abbrev WithArm : Type 0
+  WithArm = (x : Arm) × GoodArm x
+
+  abbrev GoodChain : Chain → Type 0
+  GoodChain x = AgreeOn C D (n_chain x) → l.AlikeChains C D (c_chain x) (d_chain x)
+
+  abbrev WithChain : Type 0
+  WithChain = (x : Chain) × GoodChain x
+
+  abbrev GoodChoice : Choice → Type 0
+  GoodChoice x = AgreeOn C D (n_choice x) → l.AlikeChoices C D (c_choice x) (d_choice x)
+
+  abbrev WithChoice : Type 0
+  WithChoice = (x : Choice) × GoodChoice x
+
+  abbrev GoodQuery : Query → Type 0
+  GoodQuery x = AgreeOn C D (n_query x) → l.AlikeAnswers C D (c_query x) (d_query x)
+
+  abbrev WithQuery : Type 0
+  WithQuery = (x : Query) × GoodQuery x
+
+  abbrev GoodSigned : Signed → Type 0
+  GoodSigned x = AgreeOn C D (n_signed x) → l.AlikeMeans C D (c_signed x) (d_signed x)
+
+  abbrev WithSigned : Type 0
+  WithSigned = (x : Signed) × GoodSigned x
+
+  -- a layer whose parts have their facts
+  abbrev Goods : (Type 0 → Type 0 → Type 0 → Type 0 → Type 0 → Type 0 → Type 0 → Type 0 → Type 0 → Type 0) → Type 0
+  Goods F = F WithCond WithExpr WithItem WithJoin WithArm WithChain WithChoice WithQuery WithSigned
+
+  abbrev down_cond : Goods layers.Cond-F → Written layers.Cond-F
+  down_cond = map-Cond WithCond WithExpr WithItem WithJoin WithArm WithChain WithChoice WithQuery WithSigned Cond Expr Item Join Arm Chain Choice Query Signed (λ z. z.0) (λ z. z.0) (λ z. z.0) (λ z. z.0) (λ z. z.0) (λ z. z.0) (λ z. z.0) (λ z. z.0) (λ z. z.0)
+
+  abbrev down_expr : Goods layers.Expr-F → Written layers.Expr-F
+  down_expr = map-Expr WithCond WithExpr WithItem WithJoin WithArm WithChain WithChoice WithQuery WithSigned Cond Expr Item Join Arm Chain Choice Query Signed (λ z. z.0) (λ z. z.0) (λ z. z.0) (λ z. z.0) (λ z. z.0) (λ z. z.0) (λ z. z.0) (λ z. z.0) (λ z. z.0)
+
+  abbrev down_item : Goods layers.Item-F → Written layers.Item-F
+  down_item = map-Item WithCond WithExpr WithItem WithJoin WithArm WithChain WithChoice WithQuery WithSigned Cond Expr Item Join Arm Chain Choice Query Signed (λ z. z.0) (λ z. z.0) (λ z. z.0) (λ z. z.0) (λ z. z.0) (λ z. z.0) (λ z. z.0) (λ z. z.0) (λ z. z.0)
+
+  abbrev down_join : Goods layers.Join-F → Written layers.Join-F
+  down_join = map-Join WithCond WithExpr WithItem WithJoin WithArm WithChain WithChoice WithQuery WithSigned Cond Expr Item Join Arm Chain Choice Query Signed (λ z. z.0) (λ z. z.0) (λ z. z.0) (λ z. z.0) (λ z. z.0) (λ z. z.0) (λ z. z.0) (λ z. z.0) (λ z. z.0)
+
+  abbrev down_arm : Goods layers.Arm-F → Written layers.Arm-F
+  down_arm = map-Arm WithCond WithExpr WithItem WithJoin WithArm WithChain WithChoice WithQuery WithSigned Cond Expr Item Join Arm Chain Choice Query Signed (λ z. z.0) (λ z. z.0) (λ z. z.0) (λ z. z.0) (λ z. z.0) (λ z. z.0) (λ z. z.0) (λ z. z.0) (λ z. z.0)
+
+  abbrev down_chain : Goods layers.Chain-F → Written layers.Chain-F
+  down_chain = map-Chain WithCond WithExpr WithItem WithJoin WithArm WithChain WithChoice WithQuery WithSigned Cond Expr Item Join Arm Chain Choice Query Signed (λ z. z.0) (λ z. z.0) (λ z. z.0) (λ z. z.0) (λ z. z.0) (λ z. z.0) (λ z. z.0) (λ z. z.0) (λ z. z.0)
+
+  abbrev down_choice : Goods layers.Choice-F → Written layers.Choice-F
+  down_choice = map-Choice WithCond WithExpr WithItem WithJoin WithArm WithChain WithChoice WithQuery WithSigned Cond Expr Item Join Arm Chain Choice Query Signed (λ z. z.0) (λ z. z.0) (λ z. z.0) (λ z. z.0) (λ z. z.0) (λ z. z.0) (λ z. z.0) (λ z. z.0) (λ z. z.0)
+
+  abbrev down_query : Goods layers.Query-F → Written layers.Query-F
+  down_query = map-Query WithCond WithExpr WithItem WithJoin WithArm WithChain WithChoice WithQuery WithSigned Cond Expr Item Join Arm Chain Choice Query Signed (λ z. z.0) (λ z. z.0) (λ z. z.0) (λ z. z.0) (λ z. z.0) (λ z. z.0) (λ z. z.0) (λ z. z.0) (λ z. z.0)
+
+  abbrev down_signed : Goods layers.Signed-F → Written layers.Signed-F
+  down_signed = map-Signed WithCond WithExpr WithItem WithJoin WithArm WithChain WithChoice WithQuery WithSigned Cond Expr Item Join Arm Chain Choice Query Signed (λ z. z.0) (λ z. z.0) (λ z. z.0) (λ z. z.0) (λ z. z.0) (λ z. z.0) (λ z. z.0) (λ z. z.0) (λ z. z.0)
+
+  cond_good : (y : Goods layers.Cond-F) → GoodCond (roll-Cond (down_cond y))
+  cond_good (layers.Cond-F.Or a) = λ h. let k : AgreeOn C D (all_of (map n_cond (map (λ z. z.0) a))) = subst (AgreeOn C D) (cond_roll naming naming_steps (layers.Cond-F.Or (map (λ z. z.0) a))) h in along (l.AlikeSays C D) (c_cond (roll-Cond (layers.Cond-F.Or (map (λ z. z.0) a)))) (cond_step (layers.Cond-F.Or (map c_cond (map (λ z. z.0) a)))) (d_cond (roll-Cond (layers.Cond-F.Or (map (λ z. z.0) a)))) (cond_step (layers.Cond-F.Or (map d_cond (map (λ z. z.0) a)))) (cond_roll typing (steps C) (layers.Cond-F.Or (map (λ z. z.0) a))) (cond_roll typing (steps D) (layers.Cond-F.Or (map (λ z. z.0) a))) (node.cond_or C D (map c_cond (map (λ z. z.0) a)) (map d_cond (map (λ z. z.0) a)) (each (l.AlikeSays C D) c_cond d_cond n_cond a k))
+  cond_good (layers.Cond-F.And a) = λ h. let k : AgreeOn C D (all_of (map n_cond (map (λ z. z.0) a))) = subst (AgreeOn C D) (cond_roll naming naming_steps (layers.Cond-F.And (map (λ z. z.0) a))) h in along (l.AlikeSays C D) (c_cond (roll-Cond (layers.Cond-F.And (map (λ z. z.0) a)))) (cond_step (layers.Cond-F.And (map c_cond (map (λ z. z.0) a)))) (d_cond (roll-Cond (layers.Cond-F.And (map (λ z. z.0) a)))) (cond_step (layers.Cond-F.And (map d_cond (map (λ z. z.0) a)))) (cond_roll typing (steps C) (layers.Cond-F.And (map (λ z. z.0) a))) (cond_roll typing (steps D) (layers.Cond-F.And (map (λ z. z.0) a))) (node.cond_and C D (map c_cond (map (λ z. z.0) a)) (map d_cond (map (λ z. z.0) a)) (each (l.AlikeSays C D) c_cond d_cond n_cond a k))
+  cond_good (layers.Cond-F.Not a) = λ h. let k : AgreeOn C D (n_cond a.0) = subst (AgreeOn C D) (cond_roll naming naming_steps (layers.Cond-F.Not a.0)) h in along (l.AlikeSays C D) (c_cond (roll-Cond (layers.Cond-F.Not a.0))) (cond_step (layers.Cond-F.Not (c_cond a.0))) (d_cond (roll-Cond (layers.Cond-F.Not a.0))) (cond_step (layers.Cond-F.Not (d_cond a.0))) (cond_roll typing (steps C) (layers.Cond-F.Not a.0)) (cond_roll typing (steps D) (layers.Cond-F.Not a.0)) (node.cond_not C D (c_cond a.0) (d_cond a.0) (a.1 k))
+  cond_good (layers.Cond-F.Exists a) = λ h. let k : AgreeOn C D (n_query a.0) = subst (AgreeOn C D) (cond_roll naming naming_steps (layers.Cond-F.Exists a.0)) h in along (l.AlikeSays C D) (c_cond (roll-Cond (layers.Cond-F.Exists a.0))) (cond_step (layers.Cond-F.Exists (c_query a.0))) (d_cond (roll-Cond (layers.Cond-F.Exists a.0))) (cond_step (layers.Cond-F.Exists (d_query a.0))) (cond_roll typing (steps C) (layers.Cond-F.Exists a.0)) (cond_roll typing (steps D) (layers.Cond-F.Exists a.0)) (node.cond_exists C D (c_query a.0) (d_query a.0) (a.1 k))
+  cond_good (layers.Cond-F.Compare a b c) = λ h. let k : AgreeOn C D (n_expr b.0 ++ (n_expr c.0)) = subst (AgreeOn C D) (cond_roll naming naming_steps (layers.Cond-F.Compare a b.0 c.0)) h in along (l.AlikeSays C D) (c_cond (roll-Cond (layers.Cond-F.Compare a b.0 c.0))) (cond_step (layers.Cond-F.Compare a (c_expr b.0) (c_expr c.0))) (d_cond (roll-Cond (layers.Cond-F.Compare a b.0 c.0))) (cond_step (layers.Cond-F.Compare a (d_expr b.0) (d_expr c.0))) (cond_roll typing (steps C) (layers.Cond-F.Compare a b.0 c.0)) (cond_roll typing (steps D) (layers.Cond-F.Compare a b.0 c.0)) (node.cond_compare C D a (c_expr b.0) (d_expr b.0) (b.1 (s.front C D (n_expr b.0) (n_expr c.0) k)) (c_expr c.0) (d_expr c.0) (c.1 (s.back C D (n_expr b.0) (n_expr c.0) k)))
+  cond_good (layers.Cond-F.CompareQuery a b c) = λ h. let k : AgreeOn C D (n_expr b.0 ++ (n_query c.0)) = subst (AgreeOn C D) (cond_roll naming naming_steps (layers.Cond-F.CompareQuery a b.0 c.0)) h in along (l.AlikeSays C D) (c_cond (roll-Cond (layers.Cond-F.CompareQuery a b.0 c.0))) (cond_step (layers.Cond-F.CompareQuery a (c_expr b.0) (c_query c.0))) (d_cond (roll-Cond (layers.Cond-F.CompareQuery a b.0 c.0))) (cond_step (layers.Cond-F.CompareQuery a (d_expr b.0) (d_query c.0))) (cond_roll typing (steps C) (layers.Cond-F.CompareQuery a b.0 c.0)) (cond_roll typing (steps D) (layers.Cond-F.CompareQuery a b.0 c.0)) (node.cond_comparequery C D a (c_expr b.0) (d_expr b.0) (b.1 (s.front C D (n_expr b.0) (n_query c.0) k)) (c_query c.0) (d_query c.0) (c.1 (s.back C D (n_expr b.0) (n_query c.0) k)))
+  cond_good (layers.Cond-F.IsNull a) = λ h. let k : AgreeOn C D (n_expr a.0) = subst (AgreeOn C D) (cond_roll naming naming_steps (layers.Cond-F.IsNull a.0)) h in along (l.AlikeSays C D) (c_cond (roll-Cond (layers.Cond-F.IsNull a.0))) (cond_step (layers.Cond-F.IsNull (c_expr a.0))) (d_cond (roll-Cond (layers.Cond-F.IsNull a.0))) (cond_step (layers.Cond-F.IsNull (d_expr a.0))) (cond_roll typing (steps C) (layers.Cond-F.IsNull a.0)) (cond_roll typing (steps D) (layers.Cond-F.IsNull a.0)) (node.cond_isnull C D (c_expr a.0) (d_expr a.0) (a.1 k))
+  cond_good (layers.Cond-F.InQuery a b) = λ h. let k : AgreeOn C D (n_expr a.0 ++ (n_query b.0)) = subst (AgreeOn C D) (cond_roll naming naming_steps (layers.Cond-F.InQuery a.0 b.0)) h in along (l.AlikeSays C D) (c_cond (roll-Cond (layers.Cond-F.InQuery a.0 b.0))) (cond_step (layers.Cond-F.InQuery (c_expr a.0) (c_query b.0))) (d_cond (roll-Cond (layers.Cond-F.InQuery a.0 b.0))) (cond_step (layers.Cond-F.InQuery (d_expr a.0) (d_query b.0))) (cond_roll typing (steps C) (layers.Cond-F.InQuery a.0 b.0)) (cond_roll typing (steps D) (layers.Cond-F.InQuery a.0 b.0)) (node.cond_inquery C D (c_expr a.0) (d_expr a.0) (a.1 (s.front C D (n_expr a.0) (n_query b.0) k)) (c_query b.0) (d_query b.0) (b.1 (s.back C D (n_expr a.0) (n_query b.0) k)))
+  cond_good (layers.Cond-F.InList a b) = λ h. let k : AgreeOn C D (n_expr a.0 ++ (all_of (map n_expr (map (λ z. z.0) b)))) = subst (AgreeOn C D) (cond_roll naming naming_steps (layers.Cond-F.InList a.0 (map (λ z. z.0) b))) h in along (l.AlikeSays C D) (c_cond (roll-Cond (layers.Cond-F.InList a.0 (map (λ z. z.0) b)))) (cond_step (layers.Cond-F.InList (c_expr a.0) (map c_expr (map (λ z. z.0) b)))) (d_cond (roll-Cond (layers.Cond-F.InList a.0 (map (λ z. z.0) b)))) (cond_step (layers.Cond-F.InList (d_expr a.0) (map d_expr (map (λ z. z.0) b)))) (cond_roll typing (steps C) (layers.Cond-F.InList a.0 (map (λ z. z.0) b))) (cond_roll typing (steps D) (layers.Cond-F.InList a.0 (map (λ z. z.0) b))) (node.cond_inlist C D (c_expr a.0) (d_expr a.0) (a.1 (s.front C D (n_expr a.0) (all_of (map n_expr (map (λ z. z.0) b))) k)) (map c_expr (map (λ z. z.0) b)) (map d_expr (map (λ z. z.0) b)) (each (l.AlikeMeans C D) c_expr d_expr n_expr b (s.back C D (n_expr a.0) (all_of (map n_expr (map (λ z. z.0) b))) k)))
+  cond_good (layers.Cond-F.Between a b c) = λ h. let k : AgreeOn C D (n_expr a.0 ++ (n_expr b.0 ++ (n_expr c.0))) = subst (AgreeOn C D) (cond_roll naming naming_steps (layers.Cond-F.Between a.0 b.0 c.0)) h in along (l.AlikeSays C D) (c_cond (roll-Cond (layers.Cond-F.Between a.0 b.0 c.0))) (cond_step (layers.Cond-F.Between (c_expr a.0) (c_expr b.0) (c_expr c.0))) (d_cond (roll-Cond (layers.Cond-F.Between a.0 b.0 c.0))) (cond_step (layers.Cond-F.Between (d_expr a.0) (d_expr b.0) (d_expr c.0))) (cond_roll typing (steps C) (layers.Cond-F.Between a.0 b.0 c.0)) (cond_roll typing (steps D) (layers.Cond-F.Between a.0 b.0 c.0)) (node.cond_between C D (c_expr a.0) (d_expr a.0) (a.1 (s.front C D (n_expr a.0) (n_expr b.0 ++ (n_expr c.0)) k)) (c_expr b.0) (d_expr b.0) (b.1 (s.front C D (n_expr b.0) (n_expr c.0) (s.back C D (n_expr a.0) (n_expr b.0 ++ (n_expr c.0)) k))) (c_expr c.0) (d_expr c.0) (c.1 (s.back C D (n_expr b.0) (n_expr c.0) (s.back C D (n_expr a.0) (n_expr b.0 ++ (n_expr c.0)) k))))
+
+  expr_good : (y : Goods layers.Expr-F) → GoodExpr (roll-Expr (down_expr y))
+  expr_good (layers.Expr-F.Atom a) = λ h. along (l.AlikeMeans C D) (c_expr (roll-Expr (layers.Expr-F.Atom a))) (expr_step C (layers.Expr-F.Atom a)) (d_expr (roll-Expr (layers.Expr-F.Atom a))) (expr_step D (layers.Expr-F.Atom a)) (expr_roll typing (steps C) (layers.Expr-F.Atom a)) (expr_roll typing (steps D) (layers.Expr-F.Atom a)) (node.expr_atom C D a)
+  expr_good (layers.Expr-F.Sum a) = λ h. let k : AgreeOn C D (all_of (map n_signed (map (λ z. z.0) a))) = subst (AgreeOn C D) (expr_roll naming naming_steps (layers.Expr-F.Sum (map (λ z. z.0) a))) h in along (l.AlikeMeans C D) (c_expr (roll-Expr (layers.Expr-F.Sum (map (λ z. z.0) a)))) (expr_step C (layers.Expr-F.Sum (map c_signed (map (λ z. z.0) a)))) (d_expr (roll-Expr (layers.Expr-F.Sum (map (λ z. z.0) a)))) (expr_step D (layers.Expr-F.Sum (map d_signed (map (λ z. z.0) a)))) (expr_roll typing (steps C) (layers.Expr-F.Sum (map (λ z. z.0) a))) (expr_roll typing (steps D) (layers.Expr-F.Sum (map (λ z. z.0) a))) (node.expr_sum C D (map c_signed (map (λ z. z.0) a)) (map d_signed (map (λ z. z.0) a)) (each (l.AlikeMeans C D) c_signed d_signed n_signed a k))
+  expr_good (layers.Expr-F.Concat a) = λ h. let k : AgreeOn C D (all_of (map n_expr (map (λ z. z.0) a))) = subst (AgreeOn C D) (expr_roll naming naming_steps (layers.Expr-F.Concat (map (λ z. z.0) a))) h in along (l.AlikeMeans C D) (c_expr (roll-Expr (layers.Expr-F.Concat (map (λ z. z.0) a)))) (expr_step C (layers.Expr-F.Concat (map c_expr (map (λ z. z.0) a)))) (d_expr (roll-Expr (layers.Expr-F.Concat (map (λ z. z.0) a)))) (expr_step D (layers.Expr-F.Concat (map d_expr (map (λ z. z.0) a)))) (expr_roll typing (steps C) (layers.Expr-F.Concat (map (λ z. z.0) a))) (expr_roll typing (steps D) (layers.Expr-F.Concat (map (λ z. z.0) a))) (node.expr_concat C D (map c_expr (map (λ z. z.0) a)) (map d_expr (map (λ z. z.0) a)) (each (l.AlikeMeans C D) c_expr d_expr n_expr a k))
+  expr_good (layers.Expr-F.Product a) = λ h. let k : AgreeOn C D (all_of (map n_expr (map (λ z. z.0) a))) = subst (AgreeOn C D) (expr_roll naming naming_steps (layers.Expr-F.Product (map (λ z. z.0) a))) h in along (l.AlikeMeans C D) (c_expr (roll-Expr (layers.Expr-F.Product (map (λ z. z.0) a)))) (expr_step C (layers.Expr-F.Product (map c_expr (map (λ z. z.0) a)))) (d_expr (roll-Expr (layers.Expr-F.Product (map (λ z. z.0) a)))) (expr_step D (layers.Expr-F.Product (map d_expr (map (λ z. z.0) a)))) (expr_roll typing (steps C) (layers.Expr-F.Product (map (λ z. z.0) a))) (expr_roll typing (steps D) (layers.Expr-F.Product (map (λ z. z.0) a))) (node.expr_product C D (map c_expr (map (λ z. z.0) a)) (map d_expr (map (λ z. z.0) a)) (each (l.AlikeMeans C D) c_expr d_expr n_expr a k))
+  expr_good (layers.Expr-F.Case a None) = λ h. let k : AgreeOn C D (all_of (map n_arm (map (λ z. z.0) a)) ++ ([])) = subst (AgreeOn C D) (expr_roll naming naming_steps (layers.Expr-F.Case (map (λ z. z.0) a) None)) h in along (l.AlikeMeans C D) (c_expr (roll-Expr (layers.Expr-F.Case (map (λ z. z.0) a) None))) (expr_step C (layers.Expr-F.Case (map c_arm (map (λ z. z.0) a)) None)) (d_expr (roll-Expr (layers.Expr-F.Case (map (λ z. z.0) a) None))) (expr_step D (layers.Expr-F.Case (map d_arm (map (λ z. z.0) a)) None)) (expr_roll typing (steps C) (layers.Expr-F.Case (map (λ z. z.0) a) None)) (expr_roll typing (steps D) (layers.Expr-F.Case (map (λ z. z.0) a) None)) (node.expr_case C D (map c_arm (map (λ z. z.0) a)) (map d_arm (map (λ z. z.0) a)) (each (l.AlikeArms C D) c_arm d_arm n_arm a (s.front C D (all_of (map n_arm (map (λ z. z.0) a))) ([]) k)) None None tt)
+  expr_good (layers.Expr-F.Case a (Some b)) = λ h. let k : AgreeOn C D (all_of (map n_arm (map (λ z. z.0) a)) ++ (n_expr b.0)) = subst (AgreeOn C D) (expr_roll naming naming_steps (layers.Expr-F.Case (map (λ z. z.0) a) (Some b.0))) h in along (l.AlikeMeans C D) (c_expr (roll-Expr (layers.Expr-F.Case (map (λ z. z.0) a) (Some b.0)))) (expr_step C (layers.Expr-F.Case (map c_arm (map (λ z. z.0) a)) (Some (c_expr b.0)))) (d_expr (roll-Expr (layers.Expr-F.Case (map (λ z. z.0) a) (Some b.0)))) (expr_step D (layers.Expr-F.Case (map d_arm (map (λ z. z.0) a)) (Some (d_expr b.0)))) (expr_roll typing (steps C) (layers.Expr-F.Case (map (λ z. z.0) a) (Some b.0))) (expr_roll typing (steps D) (layers.Expr-F.Case (map (λ z. z.0) a) (Some b.0))) (node.expr_case C D (map c_arm (map (λ z. z.0) a)) (map d_arm (map (λ z. z.0) a)) (each (l.AlikeArms C D) c_arm d_arm n_arm a (s.front C D (all_of (map n_arm (map (λ z. z.0) a))) (n_expr b.0) k)) (Some (c_expr b.0)) (Some (d_expr b.0)) (b.1 (s.back C D (all_of (map n_arm (map (λ z. z.0) a))) (n_expr b.0) k)))
+  expr_good (layers.Expr-F.Match a b None) = λ h. let k : AgreeOn C D (n_expr a.0 ++ (all_of (map n_choice (map (λ z. z.0) b)) ++ ([]))) = subst (AgreeOn C D) (expr_roll naming naming_steps (layers.Expr-F.Match a.0 (map (λ z. z.0) b) None)) h in along (l.AlikeMeans C D) (c_expr (roll-Expr (layers.Expr-F.Match a.0 (map (λ z. z.0) b) None))) (expr_step C (layers.Expr-F.Match (c_expr a.0) (map c_choice (map (λ z. z.0) b)) None)) (d_expr (roll-Expr (layers.Expr-F.Match a.0 (map (λ z. z.0) b) None))) (expr_step D (layers.Expr-F.Match (d_expr a.0) (map d_choice (map (λ z. z.0) b)) None)) (expr_roll typing (steps C) (layers.Expr-F.Match a.0 (map (λ z. z.0) b) None)) (expr_roll typing (steps D) (layers.Expr-F.Match a.0 (map (λ z. z.0) b) None)) (node.expr_match C D (c_expr a.0) (d_expr a.0) (a.1 (s.front C D (n_expr a.0) (all_of (map n_choice (map (λ z. z.0) b)) ++ ([])) k)) (map c_choice (map (λ z. z.0) b)) (map d_choice (map (λ z. z.0) b)) (each (l.AlikeChoices C D) c_choice d_choice n_choice b (s.front C D (all_of (map n_choice (map (λ z. z.0) b))) ([]) (s.back C D (n_expr a.0) (all_of (map n_choice (map (λ z. z.0) b)) ++ ([])) k))) None None tt)
+  expr_good (layers.Expr-F.Match a b (Some c)) = λ h. let k : AgreeOn C D (n_expr a.0 ++ (all_of (map n_choice (map (λ z. z.0) b)) ++ (n_expr c.0))) = subst (AgreeOn C D) (expr_roll naming naming_steps (layers.Expr-F.Match a.0 (map (λ z. z.0) b) (Some c.0))) h in along (l.AlikeMeans C D) (c_expr (roll-Expr (layers.Expr-F.Match a.0 (map (λ z. z.0) b) (Some c.0)))) (expr_step C (layers.Expr-F.Match (c_expr a.0) (map c_choice (map (λ z. z.0) b)) (Some (c_expr c.0)))) (d_expr (roll-Expr (layers.Expr-F.Match a.0 (map (λ z. z.0) b) (Some c.0)))) (expr_step D (layers.Expr-F.Match (d_expr a.0) (map d_choice (map (λ z. z.0) b)) (Some (d_expr c.0)))) (expr_roll typing (steps C) (layers.Expr-F.Match a.0 (map (λ z. z.0) b) (Some c.0))) (expr_roll typing (steps D) (layers.Expr-F.Match a.0 (map (λ z. z.0) b) (Some c.0))) (node.expr_match C D (c_expr a.0) (d_expr a.0) (a.1 (s.front C D (n_expr a.0) (all_of (map n_choice (map (λ z. z.0) b)) ++ (n_expr c.0)) k)) (map c_choice (map (λ z. z.0) b)) (map d_choice (map (λ z. z.0) b)) (each (l.AlikeChoices C D) c_choice d_choice n_choice b (s.front C D (all_of (map n_choice (map (λ z. z.0) b))) (n_expr c.0) (s.back C D (n_expr a.0) (all_of (map n_choice (map (λ z. z.0) b)) ++ (n_expr c.0)) k))) (Some (c_expr c.0)) (Some (d_expr c.0)) (c.1 (s.back C D (all_of (map n_choice (map (λ z. z.0) b))) (n_expr c.0) (s.back C D (n_expr a.0) (all_of (map n_choice (map (λ z. z.0) b)) ++ (n_expr c.0)) k))))
+  expr_good (layers.Expr-F.Aggregate a b) = λ h. let k : AgreeOn C D (n_expr b.0) = subst (AgreeOn C D) (expr_roll naming naming_steps (layers.Expr-F.Aggregate a b.0)) h in along (l.AlikeMeans C D) (c_expr (roll-Expr (layers.Expr-F.Aggregate a b.0))) (expr_step C (layers.Expr-F.Aggregate a (c_expr b.0))) (d_expr (roll-Expr (layers.Expr-F.Aggregate a b.0))) (expr_step D (layers.Expr-F.Aggregate a (d_expr b.0))) (expr_roll typing (steps C) (layers.Expr-F.Aggregate a b.0)) (expr_roll typing (steps D) (layers.Expr-F.Aggregate a b.0)) (node.expr_aggregate C D a (c_expr b.0) (d_expr b.0) (b.1 k) (own_path b.0 k))
+  expr_good (layers.Expr-F.Substr a b None) = λ h. let k : AgreeOn C D (n_expr a.0 ++ (n_expr b.0 ++ ([]))) = subst (AgreeOn C D) (expr_roll naming naming_steps (layers.Expr-F.Substr a.0 b.0 None)) h in along (l.AlikeMeans C D) (c_expr (roll-Expr (layers.Expr-F.Substr a.0 b.0 None))) (expr_step C (layers.Expr-F.Substr (c_expr a.0) (c_expr b.0) None)) (d_expr (roll-Expr (layers.Expr-F.Substr a.0 b.0 None))) (expr_step D (layers.Expr-F.Substr (d_expr a.0) (d_expr b.0) None)) (expr_roll typing (steps C) (layers.Expr-F.Substr a.0 b.0 None)) (expr_roll typing (steps D) (layers.Expr-F.Substr a.0 b.0 None)) (node.expr_substr C D (c_expr a.0) (d_expr a.0) (a.1 (s.front C D (n_expr a.0) (n_expr b.0 ++ ([])) k)) (c_expr b.0) (d_expr b.0) (b.1 (s.front C D (n_expr b.0) ([]) (s.back C D (n_expr a.0) (n_expr b.0 ++ ([])) k))) None None tt)
+  expr_good (layers.Expr-F.Substr a b (Some c)) = λ h. let k : AgreeOn C D (n_expr a.0 ++ (n_expr b.0 ++ (n_expr c.0))) = subst (AgreeOn C D) (expr_roll naming naming_steps (layers.Expr-F.Substr a.0 b.0 (Some c.0))) h in along (l.AlikeMeans C D) (c_expr (roll-Expr (layers.Expr-F.Substr a.0 b.0 (Some c.0)))) (expr_step C (layers.Expr-F.Substr (c_expr a.0) (c_expr b.0) (Some (c_expr c.0)))) (d_expr (roll-Expr (layers.Expr-F.Substr a.0 b.0 (Some c.0)))) (expr_step D (layers.Expr-F.Substr (d_expr a.0) (d_expr b.0) (Some (d_expr c.0)))) (expr_roll typing (steps C) (layers.Expr-F.Substr a.0 b.0 (Some c.0))) (expr_roll typing (steps D) (layers.Expr-F.Substr a.0 b.0 (Some c.0))) (node.expr_substr C D (c_expr a.0) (d_expr a.0) (a.1 (s.front C D (n_expr a.0) (n_expr b.0 ++ (n_expr c.0)) k)) (c_expr b.0) (d_expr b.0) (b.1 (s.front C D (n_expr b.0) (n_expr c.0) (s.back C D (n_expr a.0) (n_expr b.0 ++ (n_expr c.0)) k))) (Some (c_expr c.0)) (Some (d_expr c.0)) (c.1 (s.back C D (n_expr b.0) (n_expr c.0) (s.back C D (n_expr a.0) (n_expr b.0 ++ (n_expr c.0)) k))))
+  expr_good (layers.Expr-F.Apply a b) = λ h. let k : AgreeOn C D (n_expr b.0) = subst (AgreeOn C D) (expr_roll naming naming_steps (layers.Expr-F.Apply a b.0)) h in along (l.AlikeMeans C D) (c_expr (roll-Expr (layers.Expr-F.Apply a b.0))) (expr_step C (layers.Expr-F.Apply a (c_expr b.0))) (d_expr (roll-Expr (layers.Expr-F.Apply a b.0))) (expr_step D (layers.Expr-F.Apply a (d_expr b.0))) (expr_roll typing (steps C) (layers.Expr-F.Apply a b.0)) (expr_roll typing (steps D) (layers.Expr-F.Apply a b.0)) (node.expr_apply C D a (c_expr b.0) (d_expr b.0) (b.1 k))
+  expr_good (layers.Expr-F.Coalesce a) = λ h. let k : AgreeOn C D (all_of (map n_expr (map (λ z. z.0) a))) = subst (AgreeOn C D) (expr_roll naming naming_steps (layers.Expr-F.Coalesce (map (λ z. z.0) a))) h in along (l.AlikeMeans C D) (c_expr (roll-Expr (layers.Expr-F.Coalesce (map (λ z. z.0) a)))) (expr_step C (layers.Expr-F.Coalesce (map c_expr (map (λ z. z.0) a)))) (d_expr (roll-Expr (layers.Expr-F.Coalesce (map (λ z. z.0) a)))) (expr_step D (layers.Expr-F.Coalesce (map d_expr (map (λ z. z.0) a)))) (expr_roll typing (steps C) (layers.Expr-F.Coalesce (map (λ z. z.0) a))) (expr_roll typing (steps D) (layers.Expr-F.Coalesce (map (λ z. z.0) a))) (node.expr_coalesce C D (map c_expr (map (λ z. z.0) a)) (map d_expr (map (λ z. z.0) a)) (each (l.AlikeMeans C D) c_expr d_expr n_expr a k))
+
+  item_good : (y : Goods layers.Item-F) → GoodItem (roll-Item (down_item y))
+  item_good layers.Item-F.Everything = λ h. along (l.AlikeShows C D) (c_item (roll-Item layers.Item-F.Everything)) (item_step C layers.Item-F.Everything) (d_item (roll-Item layers.Item-F.Everything)) (item_step D layers.Item-F.Everything) (item_roll typing (steps C) layers.Item-F.Everything) (item_roll typing (steps D) layers.Item-F.Everything) (node.item_everything C D)
+  item_good (layers.Item-F.AllOf a) = λ h. along (l.AlikeShows C D) (c_item (roll-Item (layers.Item-F.AllOf a))) (item_step C (layers.Item-F.AllOf a)) (d_item (roll-Item (layers.Item-F.AllOf a))) (item_step D (layers.Item-F.AllOf a)) (item_roll typing (steps C) (layers.Item-F.AllOf a)) (item_roll typing (steps D) (layers.Item-F.AllOf a)) (node.item_allof C D a)
+  item_good (layers.Item-F.Value a b) = λ h. let k : AgreeOn C D (n_expr a.0) = subst (AgreeOn C D) (item_roll naming naming_steps (layers.Item-F.Value a.0 b)) h in along (l.AlikeShows C D) (c_item (roll-Item (layers.Item-F.Value a.0 b))) (item_step C (layers.Item-F.Value (c_expr a.0) b)) (d_item (roll-Item (layers.Item-F.Value a.0 b))) (item_step D (layers.Item-F.Value (d_expr a.0) b)) (item_roll typing (steps C) (layers.Item-F.Value a.0 b)) (item_roll typing (steps D) (layers.Item-F.Value a.0 b)) (node.item_value C D (c_expr a.0) (d_expr a.0) (a.1 k) b)
+
+  join_good : (y : Goods layers.Join-F) → GoodJoin (roll-Join (down_join y))
+  join_good (layers.Join-F.Inner a b) = λ h. let k : AgreeOn C D (table a.table ∷ n_cond b.0) = subst (AgreeOn C D) (join_roll naming naming_steps (layers.Join-F.Inner a b.0)) h in along (l.AlikeJoins C D) (c_join (roll-Join (layers.Join-F.Inner a b.0))) (join_step (layers.Join-F.Inner a (c_cond b.0))) (d_join (roll-Join (layers.Join-F.Inner a b.0))) (join_step (layers.Join-F.Inner a (d_cond b.0))) (join_roll typing (steps C) (layers.Join-F.Inner a b.0)) (join_roll typing (steps D) (layers.Join-F.Inner a b.0)) (node.join_inner C D a k.0 (c_cond b.0) (d_cond b.0) (b.1 k.1))
+  join_good (layers.Join-F.Left a b) = λ h. let k : AgreeOn C D (table a.table ∷ n_cond b.0) = subst (AgreeOn C D) (join_roll naming naming_steps (layers.Join-F.Left a b.0)) h in along (l.AlikeJoins C D) (c_join (roll-Join (layers.Join-F.Left a b.0))) (join_step (layers.Join-F.Left a (c_cond b.0))) (d_join (roll-Join (layers.Join-F.Left a b.0))) (join_step (layers.Join-F.Left a (d_cond b.0))) (join_roll typing (steps C) (layers.Join-F.Left a b.0)) (join_roll typing (steps D) (layers.Join-F.Left a b.0)) (node.join_left C D a k.0 (c_cond b.0) (d_cond b.0) (b.1 k.1))
+  join_good (layers.Join-F.Cross a) = λ h. let k : AgreeOn C D (table a.table ∷ []) = subst (AgreeOn C D) (join_roll naming naming_steps (layers.Join-F.Cross a)) h in along (l.AlikeJoins C D) (c_join (roll-Join (layers.Join-F.Cross a))) (join_step (layers.Join-F.Cross a)) (d_join (roll-Join (layers.Join-F.Cross a))) (join_step (layers.Join-F.Cross a)) (join_roll typing (steps C) (layers.Join-F.Cross a)) (join_roll typing (steps D) (layers.Join-F.Cross a)) (node.join_cross C D a k.0)
+
+  arm_good : (y : Goods layers.Arm-F) → GoodArm (roll-Arm (down_arm y))
+  arm_good y = λ h. let k : AgreeOn C D (n_cond y.when.0 ++ (n_expr y.result.0)) = subst (AgreeOn C D) (arm_roll naming naming_steps (record { when = y.when.0; result = y.result.0 })) h in along (l.AlikeArms C D) (c_arm (roll-Arm (record { when = y.when.0; result = y.result.0 }))) (arm_step (record { when = (c_cond y.when.0); result = (c_expr y.result.0) })) (d_arm (roll-Arm (record { when = y.when.0; result = y.result.0 }))) (arm_step (record { when = (d_cond y.when.0); result = (d_expr y.result.0) })) (arm_roll typing (steps C) (record { when = y.when.0; result = y.result.0 })) (arm_roll typing (steps D) (record { when = y.when.0; result = y.result.0 })) (((y.when.1 (s.front C D (n_cond y.when.0) (n_expr y.result.0) k)), (y.result.1 (s.back C D (n_cond y.when.0) (n_expr y.result.0) k))))
+
+  chain_good : (y : Goods layers.Chain-F) → GoodChain (roll-Chain (down_chain y))
+  chain_good y = λ h. let k : AgreeOn C D (table y.first.table ∷ all_of (map n_join (map (λ z. z.0) y.joins))) = subst (AgreeOn C D) (chain_roll naming naming_steps (record { first = y.first; joins = (map (λ z. z.0) y.joins) })) h in along (l.AlikeChains C D) (c_chain (roll-Chain (record { first = y.first; joins = (map (λ z. z.0) y.joins) }))) (chain_step (record { first = y.first; joins = (map c_join (map (λ z. z.0) y.joins)) })) (d_chain (roll-Chain (record { first = y.first; joins = (map (λ z. z.0) y.joins) }))) (chain_step (record { first = y.first; joins = (map d_join (map (λ z. z.0) y.joins)) })) (chain_roll typing (steps C) (record { first = y.first; joins = (map (λ z. z.0) y.joins) })) (chain_roll typing (steps D) (record { first = y.first; joins = (map (λ z. z.0) y.joins) })) (λ P p all n. l.joins_all C D (map c_join (map (λ z. z.0) y.joins)) (map d_join (map (λ z. z.0) y.joins)) (each (l.AlikeJoins C D) c_join d_join n_join y.joins k.1) P p all (y.first ∷ []) (k.0, tt) n)
+
+  choice_good : (y : Goods layers.Choice-F) → GoodChoice (roll-Choice (down_choice y))
+  choice_good y = λ h. let k : AgreeOn C D (n_expr y.when.0 ++ (n_expr y.result.0)) = subst (AgreeOn C D) (choice_roll naming naming_steps (record { when = y.when.0; result = y.result.0 })) h in along (l.AlikeChoices C D) (c_choice (roll-Choice (record { when = y.when.0; result = y.result.0 }))) (choice_step (record { when = (c_expr y.when.0); result = (c_expr y.result.0) })) (d_choice (roll-Choice (record { when = y.when.0; result = y.result.0 }))) (choice_step (record { when = (d_expr y.when.0); result = (d_expr y.result.0) })) (choice_roll typing (steps C) (record { when = y.when.0; result = y.result.0 })) (choice_roll typing (steps D) (record { when = y.when.0; result = y.result.0 })) (((y.when.1 (s.front C D (n_expr y.when.0) (n_expr y.result.0) k)), (y.result.1 (s.back C D (n_expr y.when.0) (n_expr y.result.0) k))))
+
+  query_good : (distinct : Bool) (items : List WithItem) (from : List WithChain) (filter : Option WithCond) (group : List Column) (having : Option WithCond)
+      → GoodQuery (roll-Query (down_query (record { distinct = distinct; items = items; from = from; filter = filter; group = group; having = having })))
+  query_good distinct items from None group None = λ h. let k : AgreeOn C D (all_of (map n_item (map (λ z. z.0) items)) ++ (all_of (map n_chain (map (λ z. z.0) from)) ++ ([] ++ ([])))) = subst (AgreeOn C D) (query_roll naming naming_steps (record { distinct = distinct; items = (map (λ z. z.0) items); from = (map (λ z. z.0) from); filter = None; group = group; having = None })) h in along (l.AlikeAnswers C D) (c_query (roll-Query (record { distinct = distinct; items = (map (λ z. z.0) items); from = (map (λ z. z.0) from); filter = None; group = group; having = None }))) (query_step C (record { distinct = distinct; items = (map c_item (map (λ z. z.0) items)); from = (map c_chain (map (λ z. z.0) from)); filter = None; group = group; having = None })) (d_query (roll-Query (record { distinct = distinct; items = (map (λ z. z.0) items); from = (map (λ z. z.0) from); filter = None; group = group; having = None }))) (query_step D (record { distinct = distinct; items = (map d_item (map (λ z. z.0) items)); from = (map d_chain (map (λ z. z.0) from)); filter = None; group = group; having = None })) (query_roll typing (steps C) (record { distinct = distinct; items = (map (λ z. z.0) items); from = (map (λ z. z.0) from); filter = None; group = group; having = None })) (query_roll typing (steps D) (record { distinct = distinct; items = (map (λ z. z.0) items); from = (map (λ z. z.0) from); filter = None; group = group; having = None })) (node.query_same C D distinct group (map c_item (map (λ z. z.0) items)) (map d_item (map (λ z. z.0) items)) (each (l.AlikeShows C D) c_item d_item n_item items (s.front C D (all_of (map n_item (map (λ z. z.0) items))) (all_of (map n_chain (map (λ z. z.0) from)) ++ ([] ++ ([]))) k)) (map c_chain (map (λ z. z.0) from)) (map d_chain (map (λ z. z.0) from)) (each (l.AlikeChains C D) c_chain d_chain n_chain from (s.front C D (all_of (map n_chain (map (λ z. z.0) from))) ([] ++ ([])) (s.back C D (all_of (map n_item (map (λ z. z.0) items))) (all_of (map n_chain (map (λ z. z.0) from)) ++ ([] ++ ([]))) k))) None None tt None None tt (tables_path (map (λ z. z.0) from)) (tables_there (map (λ z. z.0) from) (s.front C D (all_of (map n_chain (map (λ z. z.0) from))) ([] ++ ([])) (s.back C D (all_of (map n_item (map (λ z. z.0) items))) (all_of (map n_chain (map (λ z. z.0) from)) ++ ([] ++ ([]))) k))))
+  query_good distinct items from None group (Some having) = λ h. let k : AgreeOn C D (all_of (map n_item (map (λ z. z.0) items)) ++ (all_of (map n_chain (map (λ z. z.0) from)) ++ ([] ++ (n_cond having.0)))) = subst (AgreeOn C D) (query_roll naming naming_steps (record { distinct = distinct; items = (map (λ z. z.0) items); from = (map (λ z. z.0) from); filter = None; group = group; having = (Some having.0) })) h in along (l.AlikeAnswers C D) (c_query (roll-Query (record { distinct = distinct; items = (map (λ z. z.0) items); from = (map (λ z. z.0) from); filter = None; group = group; having = (Some having.0) }))) (query_step C (record { distinct = distinct; items = (map c_item (map (λ z. z.0) items)); from = (map c_chain (map (λ z. z.0) from)); filter = None; group = group; having = (Some (c_cond having.0)) })) (d_query (roll-Query (record { distinct = distinct; items = (map (λ z. z.0) items); from = (map (λ z. z.0) from); filter = None; group = group; having = (Some having.0) }))) (query_step D (record { distinct = distinct; items = (map d_item (map (λ z. z.0) items)); from = (map d_chain (map (λ z. z.0) from)); filter = None; group = group; having = (Some (d_cond having.0)) })) (query_roll typing (steps C) (record { distinct = distinct; items = (map (λ z. z.0) items); from = (map (λ z. z.0) from); filter = None; group = group; having = (Some having.0) })) (query_roll typing (steps D) (record { distinct = distinct; items = (map (λ z. z.0) items); from = (map (λ z. z.0) from); filter = None; group = group; having = (Some having.0) })) (node.query_same C D distinct group (map c_item (map (λ z. z.0) items)) (map d_item (map (λ z. z.0) items)) (each (l.AlikeShows C D) c_item d_item n_item items (s.front C D (all_of (map n_item (map (λ z. z.0) items))) (all_of (map n_chain (map (λ z. z.0) from)) ++ ([] ++ (n_cond having.0))) k)) (map c_chain (map (λ z. z.0) from)) (map d_chain (map (λ z. z.0) from)) (each (l.AlikeChains C D) c_chain d_chain n_chain from (s.front C D (all_of (map n_chain (map (λ z. z.0) from))) ([] ++ (n_cond having.0)) (s.back C D (all_of (map n_item (map (λ z. z.0) items))) (all_of (map n_chain (map (λ z. z.0) from)) ++ ([] ++ (n_cond having.0))) k))) None None tt (Some (c_cond having.0)) (Some (d_cond having.0)) (having.1 (s.back C D ([]) (n_cond having.0) (s.back C D (all_of (map n_chain (map (λ z. z.0) from))) ([] ++ (n_cond having.0)) (s.back C D (all_of (map n_item (map (λ z. z.0) items))) (all_of (map n_chain (map (λ z. z.0) from)) ++ ([] ++ (n_cond having.0))) k)))) (tables_path (map (λ z. z.0) from)) (tables_there (map (λ z. z.0) from) (s.front C D (all_of (map n_chain (map (λ z. z.0) from))) ([] ++ (n_cond having.0)) (s.back C D (all_of (map n_item (map (λ z. z.0) items))) (all_of (map n_chain (map (λ z. z.0) from)) ++ ([] ++ (n_cond having.0))) k))))
+  query_good distinct items from (Some filter) group None = λ h. let k : AgreeOn C D (all_of (map n_item (map (λ z. z.0) items)) ++ (all_of (map n_chain (map (λ z. z.0) from)) ++ (n_cond filter.0 ++ ([])))) = subst (AgreeOn C D) (query_roll naming naming_steps (record { distinct = distinct; items = (map (λ z. z.0) items); from = (map (λ z. z.0) from); filter = (Some filter.0); group = group; having = None })) h in along (l.AlikeAnswers C D) (c_query (roll-Query (record { distinct = distinct; items = (map (λ z. z.0) items); from = (map (λ z. z.0) from); filter = (Some filter.0); group = group; having = None }))) (query_step C (record { distinct = distinct; items = (map c_item (map (λ z. z.0) items)); from = (map c_chain (map (λ z. z.0) from)); filter = (Some (c_cond filter.0)); group = group; having = None })) (d_query (roll-Query (record { distinct = distinct; items = (map (λ z. z.0) items); from = (map (λ z. z.0) from); filter = (Some filter.0); group = group; having = None }))) (query_step D (record { distinct = distinct; items = (map d_item (map (λ z. z.0) items)); from = (map d_chain (map (λ z. z.0) from)); filter = (Some (d_cond filter.0)); group = group; having = None })) (query_roll typing (steps C) (record { distinct = distinct; items = (map (λ z. z.0) items); from = (map (λ z. z.0) from); filter = (Some filter.0); group = group; having = None })) (query_roll typing (steps D) (record { distinct = distinct; items = (map (λ z. z.0) items); from = (map (λ z. z.0) from); filter = (Some filter.0); group = group; having = None })) (node.query_same C D distinct group (map c_item (map (λ z. z.0) items)) (map d_item (map (λ z. z.0) items)) (each (l.AlikeShows C D) c_item d_item n_item items (s.front C D (all_of (map n_item (map (λ z. z.0) items))) (all_of (map n_chain (map (λ z. z.0) from)) ++ (n_cond filter.0 ++ ([]))) k)) (map c_chain (map (λ z. z.0) from)) (map d_chain (map (λ z. z.0) from)) (each (l.AlikeChains C D) c_chain d_chain n_chain from (s.front C D (all_of (map n_chain (map (λ z. z.0) from))) (n_cond filter.0 ++ ([])) (s.back C D (all_of (map n_item (map (λ z. z.0) items))) (all_of (map n_chain (map (λ z. z.0) from)) ++ (n_cond filter.0 ++ ([]))) k))) (Some (c_cond filter.0)) (Some (d_cond filter.0)) (filter.1 (s.front C D (n_cond filter.0) ([]) (s.back C D (all_of (map n_chain (map (λ z. z.0) from))) (n_cond filter.0 ++ ([])) (s.back C D (all_of (map n_item (map (λ z. z.0) items))) (all_of (map n_chain (map (λ z. z.0) from)) ++ (n_cond filter.0 ++ ([]))) k)))) None None tt (tables_path (map (λ z. z.0) from)) (tables_there (map (λ z. z.0) from) (s.front C D (all_of (map n_chain (map (λ z. z.0) from))) (n_cond filter.0 ++ ([])) (s.back C D (all_of (map n_item (map (λ z. z.0) items))) (all_of (map n_chain (map (λ z. z.0) from)) ++ (n_cond filter.0 ++ ([]))) k))))
+  query_good distinct items from (Some filter) group (Some having) = λ h. let k : AgreeOn C D (all_of (map n_item (map (λ z. z.0) items)) ++ (all_of (map n_chain (map (λ z. z.0) from)) ++ (n_cond filter.0 ++ (n_cond having.0)))) = subst (AgreeOn C D) (query_roll naming naming_steps (record { distinct = distinct; items = (map (λ z. z.0) items); from = (map (λ z. z.0) from); filter = (Some filter.0); group = group; having = (Some having.0) })) h in along (l.AlikeAnswers C D) (c_query (roll-Query (record { distinct = distinct; items = (map (λ z. z.0) items); from = (map (λ z. z.0) from); filter = (Some filter.0); group = group; having = (Some having.0) }))) (query_step C (record { distinct = distinct; items = (map c_item (map (λ z. z.0) items)); from = (map c_chain (map (λ z. z.0) from)); filter = (Some (c_cond filter.0)); group = group; having = (Some (c_cond having.0)) })) (d_query (roll-Query (record { distinct = distinct; items = (map (λ z. z.0) items); from = (map (λ z. z.0) from); filter = (Some filter.0); group = group; having = (Some having.0) }))) (query_step D (record { distinct = distinct; items = (map d_item (map (λ z. z.0) items)); from = (map d_chain (map (λ z. z.0) from)); filter = (Some (d_cond filter.0)); group = group; having = (Some (d_cond having.0)) })) (query_roll typing (steps C) (record { distinct = distinct; items = (map (λ z. z.0) items); from = (map (λ z. z.0) from); filter = (Some filter.0); group = group; having = (Some having.0) })) (query_roll typing (steps D) (record { distinct = distinct; items = (map (λ z. z.0) items); from = (map (λ z. z.0) from); filter = (Some filter.0); group = group; having = (Some having.0) })) (node.query_same C D distinct group (map c_item (map (λ z. z.0) items)) (map d_item (map (λ z. z.0) items)) (each (l.AlikeShows C D) c_item d_item n_item items (s.front C D (all_of (map n_item (map (λ z. z.0) items))) (all_of (map n_chain (map (λ z. z.0) from)) ++ (n_cond filter.0 ++ (n_cond having.0))) k)) (map c_chain (map (λ z. z.0) from)) (map d_chain (map (λ z. z.0) from)) (each (l.AlikeChains C D) c_chain d_chain n_chain from (s.front C D (all_of (map n_chain (map (λ z. z.0) from))) (n_cond filter.0 ++ (n_cond having.0)) (s.back C D (all_of (map n_item (map (λ z. z.0) items))) (all_of (map n_chain (map (λ z. z.0) from)) ++ (n_cond filter.0 ++ (n_cond having.0))) k))) (Some (c_cond filter.0)) (Some (d_cond filter.0)) (filter.1 (s.front C D (n_cond filter.0) (n_cond having.0) (s.back C D (all_of (map n_chain (map (λ z. z.0) from))) (n_cond filter.0 ++ (n_cond having.0)) (s.back C D (all_of (map n_item (map (λ z. z.0) items))) (all_of (map n_chain (map (λ z. z.0) from)) ++ (n_cond filter.0 ++ (n_cond having.0))) k)))) (Some (c_cond having.0)) (Some (d_cond having.0)) (having.1 (s.back C D (n_cond filter.0) (n_cond having.0) (s.back C D (all_of (map n_chain (map (λ z. z.0) from))) (n_cond filter.0 ++ (n_cond having.0)) (s.back C D (all_of (map n_item (map (λ z. z.0) items))) (all_of (map n_chain (map (λ z. z.0) from)) ++ (n_cond filter.0 ++ (n_cond having.0))) k)))) (tables_path (map (λ z. z.0) from)) (tables_there (map (λ z. z.0) from) (s.front C D (all_of (map n_chain (map (λ z. z.0) from))) (n_cond filter.0 ++ (n_cond having.0)) (s.back C D (all_of (map n_item (map (λ z. z.0) items))) (all_of (map n_chain (map (λ z. z.0) from)) ++ (n_cond filter.0 ++ (n_cond having.0))) k))))
+
+  signed_good : (y : Goods layers.Signed-F) → GoodSigned (roll-Signed (down_signed y))
+  signed_good y = λ h. let k : AgreeOn C D (n_expr y.part.0) = subst (AgreeOn C D) (signed_roll naming naming_steps (record { minus = y.minus; part = y.part.0 })) h in along (l.AlikeMeans C D) (c_signed (roll-Signed (record { minus = y.minus; part = y.part.0 }))) (signed_step (record { minus = y.minus; part = (c_expr y.part.0) })) (d_signed (roll-Signed (record { minus = y.minus; part = y.part.0 }))) (signed_step (record { minus = y.minus; part = (d_expr y.part.0) })) (signed_roll typing (steps C) (record { minus = y.minus; part = y.part.0 })) (signed_roll typing (steps D) (record { minus = y.minus; part = y.part.0 })) ((y.part.1 k))
+
+  pub one_type_cond : (x : Cond) → GoodCond x
+  one_type_cond = ind-Cond GoodCond GoodExpr GoodItem GoodJoin GoodArm GoodChain GoodChoice GoodQuery GoodSigned (λ x y is. subst (λ z. GoodCond (roll-Cond z)) is (cond_good y)) (λ x y is. subst (λ z. GoodExpr (roll-Expr z)) is (expr_good y)) (λ x y is. subst (λ z. GoodItem (roll-Item z)) is (item_good y)) (λ x y is. subst (λ z. GoodJoin (roll-Join z)) is (join_good y)) (λ x y is. subst (λ z. GoodArm (roll-Arm z)) is (arm_good y)) (λ x y is. subst (λ z. GoodChain (roll-Chain z)) is (chain_good y)) (λ x y is. subst (λ z. GoodChoice (roll-Choice z)) is (choice_good y)) (λ x y is. subst (λ z. GoodQuery (roll-Query z)) is (query_good y.distinct y.items y.from y.filter y.group y.having)) (λ x y is. subst (λ z. GoodSigned (roll-Signed z)) is (signed_good y))
+
+  pub one_type_expr : (x : Expr) → GoodExpr x
+  one_type_expr = ind-Expr GoodCond GoodExpr GoodItem GoodJoin GoodArm GoodChain GoodChoice GoodQuery GoodSigned (λ x y is. subst (λ z. GoodCond (roll-Cond z)) is (cond_good y)) (λ x y is. subst (λ z. GoodExpr (roll-Expr z)) is (expr_good y)) (λ x y is. subst (λ z. GoodItem (roll-Item z)) is (item_good y)) (λ x y is. subst (λ z. GoodJoin (roll-Join z)) is (join_good y)) (λ x y is. subst (λ z. GoodArm (roll-Arm z)) is (arm_good y)) (λ x y is. subst (λ z. GoodChain (roll-Chain z)) is (chain_good y)) (λ x y is. subst (λ z. GoodChoice (roll-Choice z)) is (choice_good y)) (λ x y is. subst (λ z. GoodQuery (roll-Query z)) is (query_good y.distinct y.items y.from y.filter y.group y.having)) (λ x y is. subst (λ z. GoodSigned (roll-Signed z)) is (signed_good y))
+
+  pub one_type_query : (x : Query) → GoodQuery x
+  one_type_query = ind-Query GoodCond GoodExpr GoodItem GoodJoin GoodArm GoodChain GoodChoice GoodQuery GoodSigned (λ x y is. subst (λ z. GoodCond (roll-Cond z)) is (cond_good y)) (λ x y is. subst (λ z. GoodExpr (roll-Expr z)) is (expr_good y)) (λ x y is. subst (λ z. GoodItem (roll-Item z)) is (item_good y)) (λ x y is. subst (λ z. GoodJoin (roll-Join z)) is (join_good y)) (λ x y is. subst (λ z. GoodArm (roll-Arm z)) is (arm_good y)) (λ x y is. subst (λ z. GoodChain (roll-Chain z)) is (chain_good y)) (λ x y is. subst (λ z. GoodChoice (roll-Choice z)) is (choice_good y)) (λ x y is. subst (λ z. GoodQuery (roll-Query z)) is (query_good y.distinct y.items y.from y.filter y.group y.having)) (λ x y is. subst (λ z. GoodSigned (roll-Signed z)) is (signed_good y))

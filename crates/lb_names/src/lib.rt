@@ -1,0 +1,14 @@
+//! Names and types: what a statement names, what its names mean, and the kinds of its expressions.
+#![tactic(auto)]
+
+mod laws;
+mod place;
+mod refused;
+
+pub use laws::{
+    columns_stay, forms_are_qualified, forms_have_a_frame, forms_keep_mentions,
+    mentions_are_marked, mentions_are_there, names_have_a_frame, types_have_a_frame,
+    typing_carries_marks, worked_names,
+};
+pub use place::{Group, Seen, Spot};
+pub use refused::Refused;

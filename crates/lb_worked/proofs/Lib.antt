@@ -1,0 +1,10 @@
+mod Computing
+mod Sure
+mod Orders
+mod Permitted
+mod Masked
+mod Edges
+mod Labelled
+mod Chained
+mod Written
+mod Stored

@@ -1,0 +1,13 @@
+pub mod Trees
+pub mod Tables
+pub mod Changes
+pub mod Policy
+pub mod Sure
+pub mod Orders
+pub mod Permitted
+pub mod Masked
+pub mod Edges
+pub mod Labelled
+pub mod Chained
+pub mod Written
+pub mod Stored

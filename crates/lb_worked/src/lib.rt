@@ -1,0 +1,12 @@
+//! Worked examples: small statements over small tables, whose answers the checker computes from the definitions.
+#![tactic(auto)]
+
+mod access;
+mod queries;
+mod writes;
+
+pub use access::{labels_decide_on_rows, masks_come_last, permissions_are_tried_in_order};
+pub use queries::{
+    edges_are_exact, names_in_on_belong_to_its_chain, sure_parts_come_first, work_goes_in_order,
+};
+pub use writes::{labels_are_stored, writes_go_row_by_row};
