@@ -12,8 +12,7 @@ use Rattle.lb_tok.specs.declared.token.Token.{Token}
 use Rattle.lb_tok.specs.declared.token.Content.TheVariants as contents
 use Rattle.lb_tok.specs.declared.token.Span.{Span}
 use Rattle.lb_tok.specs.Kinds.{only, names, has, kind_of, spelling}
-use Rattle.lb_tok.specs.Lexing.{words, goes_on, begins, Gap, a_blank, decimal_on, word_token, Writes, LexedFrom}
-use Rattle.lb_tok.specs.Scanning.{number_token, text_token}
+use Rattle.lb_tok.specs.Lexing.{words, goes_on, begins, Gap, a_blank, decimal_on, word_token, Writes, LexedFrom, number_token, text_token}
 use Rattle.lb_tok.specs.Spacing.{keyword, quoted, written, token_text, Piece, mark, name, dotted, all_of, opening, literal, digits, negative, tokens_in, openings, closings, begins_closing, ends_opening, piece_text, Layout, start, gap, lay, laid, spaced}
 use Rattle.lb_tok.proofs.Scanned.{word_kind}
 use Rattle.lb_tok.proofs.Layouts.{nil}

@@ -11,8 +11,8 @@ use Rattle.lb_tok.specs.declared.kind.Kind.{Kind}
 use Rattle.lb_tok.specs.declared.kind.Kind.TheVariants as kinds
 use Rattle.lb_tok.specs.declared.token.Token.{Token}
 use Rattle.lb_tok.specs.Kinds.{Kinds, only, from_to, has, kind_of, keywords, spelling}
-use Rattle.lb_tok.specs.Lexing.{words, goes_on, begins, begins_gap, is_blank, decimal_on, doubled, word_token, symbol_token, IsNumeral, IsSymbol, Writes, StandsBefore}
-use Rattle.lb_tok.specs.Scanning.{split_run, value_on, quoted_from, single, double, with_rest, or_else, symbol_from, number_token, text_token, word_from, number_from, token_from}
+use Rattle.lb_tok.specs.Lexing.{words, goes_on, begins, begins_gap, is_blank, decimal_on, doubled, word_token, symbol_token, IsNumeral, IsSymbol, Writes, StandsBefore, number_token, text_token}
+use Rattle.lb_tok.specs.Scanning.{split_run, value_on, quoted_from, single, double, with_rest, or_else, symbol_from, word_from, number_from, token_from}
 use Rattle.lb_tok.proofs.Gaps.{both, is_same, high_no_blank, high_no_dash}
 
 nil : (a : List ℕ) → a ++ [] ≡ a

@@ -30,7 +30,7 @@ use Rattle.lb_tok.specs.QueryPieces.{listed, clause, option_of, alias_pieces, ta
 use Rattle.lb_tok.specs.Canonical.{targets_pieces, row_pieces, source_pieces, insert_pieces, assignment_pieces, update_pieces, delete_pieces, stmt_pieces}
 use Rattle.lb_tok.specs.Grammar.{IsName, IsAlias, IsTab, IsItem, IsItems, IsOn, IsJoin, IsChain, IsWhere, IsGroup, IsHaving, IsQuery, IsDirection, IsSortKey, IsOrder, IsCount, IsFetch, IsSelect, IsRow, IsSource, IsTargets, IsInsert, IsAssignment, IsUpdate, IsDelete, IsQueryOrWrite}
 use Rattle.lb_tok.proofs.Opens.{item_pieces-Everything, item_pieces-AllOf, item_pieces-Value, join_pieces-Inner, join_pieces-Left, join_pieces-Cross, chain_pieces-rolled, query_pieces-rolled}
-use Rattle.lb_tok.specs.Scanning.{number_token}
+use Rattle.lb_tok.specs.Lexing.{number_token}
 use Rattle.lb_tok.proofs.Fitting.{all_of_run, digits_run}
 use Rattle.lb_tok.proofs.SpelledPieces.{Got, split, follow, unmake, meant, nothing_is, which, inside, Spells, seq, give, made, word, after, means, left, right, bracket, regroup, many, listing, optional, flagged}
 use Rattle.lb_tok.proofs.Contents.{Turns}

@@ -15,8 +15,7 @@ use Rattle.lb_tok.specs.declared.token.Token.{Token}
 use Rattle.lb_tok.specs.declared.token.Content.{Content}
 use Rattle.lb_tok.specs.declared.token.Content.TheVariants as contents
 use Rattle.lb_tok.specs.Kinds.{from_to, has, names, kind_of}
-use Rattle.lb_tok.specs.Lexing.{Writes, word_token}
-use Rattle.lb_tok.specs.Scanning.{number_token, text_token}
+use Rattle.lb_tok.specs.Lexing.{Writes, word_token, number_token, text_token}
 use Rattle.lb_tok.specs.Words.{name_in, int_in, negative_in, count_in, day_in}
 use Rattle.lb_tok.specs.Form.{Below, Lang}
 use Rattle.lb_tok.specs.Spacing.{Piece, mark, name, dotted, literal, digits, negative}

@@ -69,12 +69,6 @@ unfoldable pub symbol_from : ℕ → List ℕ → Option (Token × List ℕ)
 symbol_from b [] = with_rest [] (single b)
 symbol_from b (c ∷ bs) = or_else (with_rest bs (double b c)) (with_rest (c ∷ bs) (single b))
 
-abbrev pub number_token : ℕ → Token
-number_token v = record { kind = kinds.Numeral; content = contents.Number v }
-
-abbrev pub text_token : List ℕ → Token
-text_token t = record { kind = kinds.Text; content = contents.Text t }
-
 abbrev pub word_from : List ℕ × List ℕ → Option (Token × List ℕ)
 word_from r = option_and_then (λ n. Some (word_token n, r.1)) (name_of r.0)
 

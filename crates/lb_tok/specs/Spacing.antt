@@ -8,8 +8,7 @@ use Rattle.lb_tok.specs.declared.token.Token.{Token}
 use Rattle.lb_tok.specs.declared.token.Content.{Content}
 use Rattle.lb_tok.specs.declared.token.Content.TheVariants as contents
 use Rattle.lb_tok.specs.Kinds.{Kinds, only, names, has, spelling}
-use Rattle.lb_tok.specs.Lexing.{doubled, word_token}
-use Rattle.lb_tok.specs.Scanning.{number_token, text_token}
+use Rattle.lb_tok.specs.Lexing.{doubled, word_token, number_token, text_token}
 
 -- ---- tokens
 

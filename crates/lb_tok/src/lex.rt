@@ -7,8 +7,8 @@ ghost use Rattle.std.specs.Option.{option_map, option_and_then};
 ghost use Rattle.lb_base.specs.Names.{is_name_byte, name_of};
 ghost use Rattle.lb_tok.specs.Faults.{IsTextFault};
 ghost use Rattle.lb_tok.specs.Limit.{most_statement_bytes};
-ghost use Rattle.lb_tok.specs.Lexing.{begins, is_blank, is_line, is_quoteless, symbol_token, word_token, Lexed};
-ghost use Rattle.lb_tok.specs.Scanning.{NoneBegins, past_gap, past_gap_in, split_run, value_more, value_on, quoted_from, single, double, symbol_from, number_token, text_token, word_from, number_from, token_from};
+ghost use Rattle.lb_tok.specs.Lexing.{begins, is_blank, is_line, is_quoteless, symbol_token, word_token, Lexed, number_token, text_token};
+ghost use Rattle.lb_tok.specs.Scanning.{NoneBegins, past_gap, past_gap_in, split_run, value_more, value_on, quoted_from, single, double, symbol_from, word_from, number_from, token_from};
 ghost use Rattle.lb_tok.specs.declared.lex.ReadFault.TheVariants.{Syntax, NoMemory};
 
 use crate::{Content, Kind, Span, Token, Tokens};
