@@ -1,8 +1,8 @@
 -- The lines of a printed journal: how many entries it has, and one line for each.
 use Rattle.std.specs.Prelude.{ℕ, ◌+◌, List, [], ◌∷◌, ◌++◌, length, codes}
 use Rattle.std.specs.Fmt.{decimal}
-use Rattle.lb_model.specs.declared.entry.Entry.{Entry}
-use Rattle.lb_model.specs.declared.entry.Entry.TheVariants as entries
+use Rattle.lb_cat.specs.declared.entry.Entry.{Entry}
+use Rattle.lb_cat.specs.declared.entry.Entry.TheVariants as entries
 use Rattle.lb_model.specs.Out.{line}
 use Rattle.lb_block.specs.Parts.{behind_blanks}
 

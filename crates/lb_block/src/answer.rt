@@ -6,7 +6,7 @@ use crate::refusal::push_refusal;
 use crate::row::push_rows;
 use crate::word::{mark_word, verb_word};
 use lb_base::{Name, NoMemory, Str};
-use lb_model::{Answer, Reply};
+use lb_cat::{Answer, Reply};
 use std::alloc::Global;
 
 /// The block of an answer: a line with its place in the journal (or `-`), its mark and its reply, and a line for each row

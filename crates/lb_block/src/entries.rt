@@ -5,7 +5,7 @@ ghost use Rattle.lb_block.specs.Parts.{behind_blanks};
 
 use crate::part::{push_number, push_word, push_words};
 use lb_base::{Name, NoMemory, Str};
-use lb_model::Entry;
+use lb_cat::Entry;
 use std::alloc::Global;
 
 /// The first line of a journal, with the number of its entries. The only error is out of memory.

@@ -6,7 +6,7 @@ ghost use Rattle.lb_block.specs.Parts.{behind_blanks};
 use crate::part::{push_number, push_separator, push_word, push_words};
 use crate::word::{flaw_word, limit_word, privilege_word, reason_word, rule_word};
 use lb_base::{Name, NoMemory};
-use lb_model::Refusal;
+use lb_cat::Refusal;
 
 /// REFUSED, and the refusal's number, name and fields.
 pub fn push_refusal(out: &mut String, refusal: &Refusal) -> Result<(), NoMemory>

@@ -3,7 +3,7 @@ ghost use Rattle.std.specs.Prelude.{◌≡◌};
 ghost use Rattle.lb_model.specs.Out.{flaw_text, limit_text, mark_text, reason_name, privilege_text, rule_text, verb_text};
 
 use lb_base::Rule;
-use lb_model::{Flaw, LimitOf, Mark, NeededPrivilege, Refusal, Verb};
+use lb_cat::{Flaw, LimitOf, Mark, NeededPrivilege, Refusal, Verb};
 
 /// The mark of a plan, or `-`.
 pub fn mark_word(mark: Mark) -> &'static str

@@ -4,3 +4,4 @@ pub mod Holdings
 pub mod Keys
 pub mod Privileges
 pub mod Stamps
+pub mod Numbers

@@ -17,6 +17,7 @@ pub use catalog::{
     UserRec,
 };
 pub use cred::{Cred, CredLabel, CredLabels};
+pub use entry::{Entry, Said};
 pub use laws::records_are_bare;
 pub use refusal::{Flaw, LimitOf, NeededPrivilege, Refusal};
 pub use reply::{Reply, Verb};

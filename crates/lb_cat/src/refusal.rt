@@ -1,4 +1,7 @@
 // Why statements are refused.
+ghost use Rattle.std.specs.Prelude.{◌≡◌};
+ghost use Rattle.lb_cat.specs.Numbers.{refusal_number};
+
 use lb_base::{Names, Rule, Str};
 
 /// A privilege on a table that a session lacks.
@@ -100,4 +103,41 @@ pub enum Refusal {
     BadTable(Str, Flaw),
     /// The statement can be read, and its form is not built yet.
     NotYet,
+}
+
+impl Refusal {
+    /// The refusal's number, which its line shows.
+    pub fn number(&self) -> u8
+        ensures { result ≡ refusal_number self.now }
+    {
+        match self {
+            Refusal::Syntax(_) => 1,
+            Refusal::Unknown(_) => 2,
+            Refusal::Exists(_) => 3,
+            Refusal::Types(_) => 4,
+            Refusal::Privilege(_, _) => 5,
+            Refusal::NotSecadm => 6,
+            Refusal::ColumnRead(_, _, _) => 7,
+            Refusal::ColumnWrite(_, _, _) => 8,
+            Refusal::RowWrite(_, _) => 9,
+            Refusal::LabelWrite(_, _) => 10,
+            Refusal::NoWriteLabel(_) => 11,
+            Refusal::RowPermission(_, _) => 12,
+            Refusal::MaskedSource(_) => 13,
+            Refusal::MaskGroup(_) => 14,
+            Refusal::DuplicateKey(_) => 15,
+            Refusal::Overflow => 16,
+            Refusal::ManyRows => 17,
+            Refusal::InUse(_, _) => 18,
+            Refusal::BadLabel(_) => 19,
+            Refusal::GrantMismatch(_) => 20,
+            Refusal::Limit(_, _) => 21,
+            Refusal::JournalFull(_) => 22,
+            Refusal::NullValue(_, _) => 23,
+            Refusal::TooWide(_, _, _) => 24,
+            Refusal::BadSource(_, _) => 25,
+            Refusal::BadTable(_, _) => 26,
+            Refusal::NotYet => 99,
+        }
+    }
 }

@@ -5,8 +5,8 @@ use Rattle.lb_front.specs.declared.output.Cut.{Cut}
 use Rattle.std.proofs.lemmas.List.{append-nil}
 use Rattle.lb_wire.specs.Told.{GrewBy}
 use Rattle.lb_wire.proofs.Told.{GrewBy-nil, Appends-nil}
-use Rattle.lb_model.specs.declared.entry.Entry.{Entry}
-use Rattle.lb_model.specs.declared.reply.Answer.{Answer}
+use Rattle.lb_cat.specs.declared.entry.Entry.{Entry}
+use Rattle.lb_cat.specs.declared.answer.Answer.{Answer}
 use Rattle.lb_model.specs.Journal.{IsMade}
 use Rattle.lb_model.specs.Told.{places, places_and}
 use Rattle.lb_model.specs.Sections.{Section, full, AreShut}

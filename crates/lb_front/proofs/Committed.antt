@@ -10,14 +10,14 @@ use Rattle.lb_tok.specs.Canonical.{canonical}
 use Rattle.lb_tok.specs.Syntax.{IsRepeatable}
 use Rattle.lb_read.proofs.Again.{spoken}
 use Rattle.lb_base.specs.Days.{IsDay}
-use Rattle.lb_model.specs.declared.entry.Entry.{Entry}
-use Rattle.lb_model.specs.declared.entry.Entry.TheVariants as entries
-use Rattle.lb_model.specs.declared.entry.Said.{Said}
-use Rattle.lb_model.specs.declared.reply.Answer.{Answer}
-use Rattle.lb_model.specs.declared.reply.Mark.{Mark}
-use Rattle.lb_model.specs.declared.reply.Mark.TheVariants as marks
-use Rattle.lb_model.specs.declared.reply.Reply.{Reply}
-use Rattle.lb_model.specs.declared.reply.Reply.TheVariants as replies
+use Rattle.lb_cat.specs.declared.entry.Entry.{Entry}
+use Rattle.lb_cat.specs.declared.entry.Entry.TheVariants as entries
+use Rattle.lb_cat.specs.declared.entry.Said.{Said}
+use Rattle.lb_cat.specs.declared.answer.Answer.{Answer}
+use Rattle.lb_cat.specs.declared.answer.Mark.{Mark}
+use Rattle.lb_cat.specs.declared.answer.Mark.TheVariants as marks
+use Rattle.lb_cat.specs.declared.reply.Reply.{Reply}
+use Rattle.lb_cat.specs.declared.reply.Reply.TheVariants as replies
 use Rattle.lb_model.specs.Answer.{is_query}
 use Rattle.lb_model.specs.Step.{State, first, after}
 use Rattle.lb_model.specs.Journal.{IsMade, Speaks, FollowsSaid, opened_by, said_by, is_said_by, opens}

@@ -11,7 +11,7 @@ use Rattle.lb_wire.specs.Told.{GrewBy, AppendsPart}
 use Rattle.lb_wire.proofs.Told.{GrewBy-nil, GrewBy-then, Appends-nil, Appends-then, AppendsPart-then, AppendsPart-whole}
 use Rattle.lb_wire.specs.declared.status.Status.{Status}
 use Rattle.lb_wire.specs.declared.status.Status.TheVariants as statuses
-use Rattle.lb_model.specs.declared.entry.Entry.{Entry}
+use Rattle.lb_cat.specs.declared.entry.Entry.{Entry}
 use Rattle.lb_model.specs.Journal.{opens}
 use Rattle.lb_model.specs.Sections.{Section, SectionResult, Journaled, out, section_text}
 use Rattle.lb_model.specs.Telling.{first_of}

@@ -6,10 +6,10 @@ use Rattle.std.proofs.lemmas.List.{append-nil, take_all}
 use Rattle.std.proofs.lemmas.List.Concat.{flat_map-append}
 use Rattle.lb_wire.specs.Told.{GrewBy, AppendsPart}
 use Rattle.lb_wire.proofs.Told.{GrewBy-nil, GrewBy-then, Appends-then, AppendsPart-then}
-use Rattle.lb_model.specs.declared.entry.Entry.{Entry}
-use Rattle.lb_model.specs.declared.entry.Entry.TheVariants as entries
-use Rattle.lb_model.specs.declared.entry.Said.{Said}
-use Rattle.lb_model.specs.declared.reply.Answer.{Answer}
+use Rattle.lb_cat.specs.declared.entry.Entry.{Entry}
+use Rattle.lb_cat.specs.declared.entry.Entry.TheVariants as entries
+use Rattle.lb_cat.specs.declared.entry.Said.{Said}
+use Rattle.lb_cat.specs.declared.answer.Answer.{Answer}
 use Rattle.lb_model.specs.Journal.{IsMade, opens}
 use Rattle.lb_model.specs.Out.{header_text, block_text}
 use Rattle.lb_model.specs.Told.{Placed, Unplaced}

@@ -5,7 +5,7 @@ use Rattle.std.proofs.lemmas.List.{append-nil, take_all}
 use Rattle.std.proofs.lemmas.List.Concat.{flat_map-append}
 use Rattle.lb_wire.specs.Told.{AppendsPart}
 use Rattle.lb_wire.proofs.Told.{Appends-then, AppendsPart-then}
-use Rattle.lb_model.specs.declared.reply.Answer.{Answer}
+use Rattle.lb_cat.specs.declared.answer.Answer.{Answer}
 use Rattle.lb_model.specs.Out.{block_text, full_text}
 use Rattle.lb_model.specs.Sections.{AreShut}
 use Rattle.lb_front.specs.Running.{IsShutAnswer, shut_text, ShutWritten, ShutPartWritten, ShutLoops}

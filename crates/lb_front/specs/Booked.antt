@@ -1,7 +1,7 @@
 -- The journal of a run with what stands after it, and a session of it.
 use Rattle.std.specs.Prelude.{ℕ, ◌≡◌, ◌≤◌, ◌<◌, ◌^◌, List, [], ◌∷◌, ◌++◌, length, Some}
-use Rattle.lb_model.specs.declared.entry.Entry.{Entry}
-use Rattle.lb_model.specs.declared.entry.Entry.TheVariants as entries
+use Rattle.lb_cat.specs.declared.entry.Entry.{Entry}
+use Rattle.lb_cat.specs.declared.entry.Entry.TheVariants as entries
 use Rattle.lb_model.specs.Step.{State}
 use Rattle.lb_model.specs.Journal.{IsMade, opened_by, said_by, opens}
 use Rattle.lb_model.specs.Replay.{Replay}

@@ -2,7 +2,7 @@
 ghost use Rattle.std.specs.Prelude.{◌≡◌, ◌<◌, ◌^◌, ℕ, List, [], length, IfOk, IfErr, OnOk, OnErr, Some};
 ghost use Rattle.lb_base.specs.Days.{IsDay};
 ghost use Rattle.lb_tok.specs.Syntax.{IsRepeatable};
-ghost use Rattle.lb_model.specs.declared.entry.Entry.TheVariants as entries;
+ghost use Rattle.lb_cat.specs.declared.entry.Entry.TheVariants as entries;
 ghost use Rattle.lb_model.specs.Answer.{is_query as reads_only};
 ghost use Rattle.lb_model.specs.Journal.{opens};
 ghost use Rattle.lb_model.specs.NotYet.{rows_given};
@@ -13,7 +13,7 @@ ghost use Rattle.lb_front.specs.Prepared.{IsReady, IsStopped, Did};
 
 use crate::stop::{Stop, unplaced};
 use lb_base::{Name, Names, NoMemory, RowList, Str};
-use lb_model::{Answer, Entry, Mark, Reply, Said};
+use lb_cat::{Answer, Entry, Mark, Reply, Said};
 use lb_readable::{Readable, readable};
 use lb_refr::{Store, given_rows};
 use lb_stmt::Stmt;

@@ -10,7 +10,7 @@ ghost use Rattle.lb_front.specs.Running.{cut_status};
 use crate::book::Session;
 use crate::stop::{Stop, unplaced};
 use lb_block::{bad_script, block, header};
-use lb_model::Answer;
+use lb_cat::Answer;
 use lb_wire::{Sink, Status, put_all};
 use std::alloc::Global;
 

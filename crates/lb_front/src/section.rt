@@ -12,7 +12,7 @@ ghost use Rattle.lb_front.specs.Running.{SectionWritten, SectionCut, SessionWrit
 use crate::book::{Book, Session};
 use crate::output::{Cut, put_block, put_full, put_header};
 use crate::stop::{Stop, unplaced};
-use lb_model::Answer;
+use lb_cat::Answer;
 use lb_readable::readable;
 use lb_split::{Section, Span, text_at};
 use lb_wire::{Clock, Sink};

@@ -1,10 +1,10 @@
 // Why a statement has no place, and its answer.
 ghost use Rattle.std.specs.Prelude.{◌≡◌, None};
-ghost use Rattle.lb_model.specs.declared.reply.Mark.TheVariants as marks;
+ghost use Rattle.lb_cat.specs.declared.answer.Mark.TheVariants as marks;
 ghost use Rattle.lb_front.specs.declared.stop.Stop.TheVariants as stops;
 ghost use Rattle.lb_front.specs.Prepared.{stop_of, stop_reply};
 
-use lb_model::{Answer, Mark, Refusal, Reply};
+use lb_cat::{Answer, Mark, Refusal, Reply};
 use lb_readable::ReadFault;
 use std::alloc::AllocError;
 

@@ -8,13 +8,13 @@ use Rattle.std.proofs.lemmas.List.{length-append, length-take-le, take_all, take
 use Rattle.lb_stmt.specs.declared.write.Stmt.{Stmt}
 use Rattle.lb_tok.specs.Canonical.{canonical}
 use Rattle.lb_model.proofs.There.{made_at}
-use Rattle.lb_model.specs.declared.entry.Entry.{Entry}
-use Rattle.lb_model.specs.declared.entry.Entry.TheVariants as entries
-use Rattle.lb_model.specs.declared.entry.Said.{Said}
-use Rattle.lb_model.specs.declared.reply.Answer.{Answer}
-use Rattle.lb_model.specs.declared.reply.Mark.TheVariants as marks
-use Rattle.lb_model.specs.declared.reply.Reply.{Reply}
-use Rattle.lb_model.specs.declared.reply.Reply.TheVariants as replies
+use Rattle.lb_cat.specs.declared.entry.Entry.{Entry}
+use Rattle.lb_cat.specs.declared.entry.Entry.TheVariants as entries
+use Rattle.lb_cat.specs.declared.entry.Said.{Said}
+use Rattle.lb_cat.specs.declared.answer.Answer.{Answer}
+use Rattle.lb_cat.specs.declared.answer.Mark.TheVariants as marks
+use Rattle.lb_cat.specs.declared.reply.Reply.{Reply}
+use Rattle.lb_cat.specs.declared.reply.Reply.TheVariants as replies
 use Rattle.lb_model.specs.Step.{State}
 use Rattle.lb_model.specs.Journal.{FollowsSaid, IsMade, opens, mine_from, mine}
 use Rattle.lb_model.specs.Replay.{Replay, Replies}

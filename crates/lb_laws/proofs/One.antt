@@ -1,9 +1,9 @@
 -- What a journal leaves is one state, and the reply at a place is one: canonical texts tell statements apart.
 use Rattle.std.proofs.Common.{◌≡◌, ℕ, ◌+◌, List, [], ◌∷◌, take, Some, sym, ap, subst, ◌∙◌}
 use Rattle.lb_stmt.specs.declared.write.Stmt.{Stmt}
-use Rattle.lb_model.specs.declared.entry.Entry.{Entry}
-use Rattle.lb_model.specs.declared.entry.Entry.TheVariants as entries
-use Rattle.lb_model.specs.declared.reply.Reply.{Reply}
+use Rattle.lb_cat.specs.declared.entry.Entry.{Entry}
+use Rattle.lb_cat.specs.declared.entry.Entry.TheVariants as entries
+use Rattle.lb_cat.specs.declared.reply.Reply.{Reply}
 use Rattle.lb_model.specs.Step.{State, first, after, step}
 use Rattle.lb_model.specs.Journal.{Speaks}
 use Rattle.lb_model.specs.Replay.{Steps, Replies, Runs, Replay, Rep}

@@ -1,8 +1,8 @@
 -- What a run takes from outside, besides its script: the day of each statement, and where memory runs out.
 use Rattle.std.specs.Prelude.{ℕ, ◌≡◌, Bool, List, map, Option, None, Some, is_some}
-use Rattle.lb_model.specs.declared.reply.Answer.{Answer}
-use Rattle.lb_model.specs.declared.reply.Reply.{Reply}
-use Rattle.lb_model.specs.declared.reply.Reply.TheVariants as replies
+use Rattle.lb_cat.specs.declared.answer.Answer.{Answer}
+use Rattle.lb_cat.specs.declared.reply.Reply.{Reply}
+use Rattle.lb_cat.specs.declared.reply.Reply.TheVariants as replies
 use Rattle.lb_model.specs.Sections.{SectionResult}
 
 -- of an answer that is out of memory, whether it has a place; of any other, nothing

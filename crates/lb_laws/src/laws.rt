@@ -1,7 +1,7 @@
 // Laws over the definitions. Each is the contract of a function that does nothing.
 ghost use Rattle.std.specs.Prelude.{◌≡◌, ℕ, List};
-ghost use Rattle.lb_model.specs.declared.entry.Entry.{Entry};
-ghost use Rattle.lb_model.specs.declared.reply.Reply.{Reply};
+ghost use Rattle.lb_cat.specs.declared.entry.Entry.{Entry};
+ghost use Rattle.lb_cat.specs.declared.reply.Reply.{Reply};
 ghost use Rattle.lb_model.specs.Step.{State};
 ghost use Rattle.lb_model.specs.Replay.{Replay, Rep};
 ghost use Rattle.lb_model.specs.Sections.{Section, SectionResult, Journaled, out};

@@ -91,14 +91,14 @@ query_comparison by a q env = do
 
 -- IN over a list: the value, and then the list in order up to a part that equals it
 abbrev pub is_listed_in : Means → List Means → Env → Evaluated Truth
-is_listed_in a ms env = a.value env >>= λ x. is_in False x (map (λ m. m.value env) ms)
+is_listed_in a ms env = a.value env >>= λ x. is_in x (map (λ m. m.value env) ms)
 
 -- IN over a subquery: the value, then the whole subquery, and then its rows in order
 abbrev pub is_row_of : Means → Answers → Env → Evaluated Truth
 is_row_of a q env = do
   x ← a.value env
   rows ← all_rows q env
-  is_in False x (map (λ r. Ok (first_output r)) rows)
+  is_in x (map (λ r. Ok (first_output r)) rows)
 
 -- BETWEEN: the value and the lower bound, and the upper bound only if the value isn't below the lower one
 abbrev pub lies_between : Means → Means → Means → Env → Evaluated Truth
@@ -109,8 +109,8 @@ lies_between a low high env = do
 
 -- the truth of a condition
 abbrev pub cond_test : Layer meaning layers.Cond-F → Env → Evaluated Truth
-cond_test (layers.Cond-F.Or cs) env = any_true False (tests cs env)
-cond_test (layers.Cond-F.And cs) env = all_true True (tests cs env)
+cond_test (layers.Cond-F.Or cs) env = any_true (tests cs env)
+cond_test (layers.Cond-F.And cs) env = all_true (tests cs env)
 cond_test (layers.Cond-F.Not c) env = c.test env >>= λ t. Ok (not_of t)
 cond_test (layers.Cond-F.Exists q) env = has_rows q env
 cond_test (layers.Cond-F.Compare by a b) env = comparison by a b env

@@ -4,9 +4,9 @@ use Rattle.std.specs.Prelude.{ℤ, slice_get}
 use Rattle.std.proofs.lemmas.Option.{slice_get_within}
 use Rattle.std.proofs.lemmas.List.{append-nil, take-append-le, length-append}
 use Rattle.std.proofs.lemmas.List.Concat.{flat_map-append}
-use Rattle.lb_model.specs.declared.entry.Entry.{Entry}
-use Rattle.lb_model.specs.declared.entry.Entry.TheVariants as entries
-use Rattle.lb_model.specs.declared.reply.Answer.{Answer}
+use Rattle.lb_cat.specs.declared.entry.Entry.{Entry}
+use Rattle.lb_cat.specs.declared.entry.Entry.TheVariants as entries
+use Rattle.lb_cat.specs.declared.answer.Answer.{Answer}
 use Rattle.lb_model.specs.Journal.{mine, opens}
 use Rattle.lb_model.specs.Told.{Told, count_from}
 use Rattle.lb_model.specs.Sections.{Section, SessionOpening, opened, full, SectionResult, IsTold, AreTold, places_in, section_text, out, IsFront}

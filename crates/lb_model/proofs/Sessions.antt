@@ -4,9 +4,9 @@ use Rattle.std.specs.Prelude.{slice_get, ◌==◌}
 use Rattle.std.proofs.lemmas.Bool.Decides.{nat_tests}
 use Rattle.std.proofs.lemmas.List.Sums.{sum_by-append, sum_by-cons}
 use Rattle.std.proofs.lemmas.List.{append-nil}
-use Rattle.lb_model.specs.declared.entry.Entry.{Entry}
-use Rattle.lb_model.specs.declared.entry.Entry.TheVariants as entries
-use Rattle.lb_model.specs.declared.entry.Said.{Said}
+use Rattle.lb_cat.specs.declared.entry.Entry.{Entry}
+use Rattle.lb_cat.specs.declared.entry.Entry.TheVariants as entries
+use Rattle.lb_cat.specs.declared.entry.Said.{Said}
 use Rattle.lb_model.specs.Journal.{FollowsSaid, Follows, MadeFrom, IsMade, mine_from, mine, opened_by, said_by, is_said_by, opens, is_open}
 use Rattle.lb_model.proofs.Longer.{mine_from_more}
 

@@ -3,10 +3,10 @@ use Rattle.std.proofs.Common.{◌≡◌, inl, inr, ℕ, zero, suc, ◌+◌, ◌<
 use Rattle.std.specs.Prelude.{ℤ, slice_get}
 use Rattle.std.proofs.Math.Seq.{take-length}
 use Rattle.std.proofs.lemmas.List.{append-nil, take-append-le, length-append}
-use Rattle.lb_model.specs.declared.entry.Entry.{Entry}
-use Rattle.lb_model.specs.declared.entry.Entry.TheVariants as entries
-use Rattle.lb_model.specs.declared.entry.Said.{Said}
-use Rattle.lb_model.specs.declared.reply.Answer.{Answer}
+use Rattle.lb_cat.specs.declared.entry.Entry.{Entry}
+use Rattle.lb_cat.specs.declared.entry.Entry.TheVariants as entries
+use Rattle.lb_cat.specs.declared.entry.Said.{Said}
+use Rattle.lb_cat.specs.declared.answer.Answer.{Answer}
 use Rattle.lb_model.specs.Journal.{IsMade, mine, opens}
 use Rattle.lb_model.specs.Told.{Placed, Unplaced, Told, places, count_from}
 use Rattle.lb_model.specs.Sections.{Section, SectionResult, opened, IsTold, places_in}

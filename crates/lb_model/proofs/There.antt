@@ -3,10 +3,10 @@ use Rattle.std.proofs.Common.{◌≡◌, ℕ, zero, suc, ◌+◌, ◌<◌, ◌�
 use Rattle.std.specs.Prelude.{slice_get}
 use Rattle.std.proofs.lemmas.List.{append-nil}
 use Rattle.lb_stmt.specs.declared.write.Stmt.{Stmt}
-use Rattle.lb_model.specs.declared.entry.Said.{Said}
-use Rattle.lb_model.specs.declared.entry.Entry.{Entry}
-use Rattle.lb_model.specs.declared.entry.Entry.TheVariants as entries
-use Rattle.lb_model.specs.declared.reply.Reply.{Reply}
+use Rattle.lb_cat.specs.declared.entry.Said.{Said}
+use Rattle.lb_cat.specs.declared.entry.Entry.{Entry}
+use Rattle.lb_cat.specs.declared.entry.Entry.TheVariants as entries
+use Rattle.lb_cat.specs.declared.reply.Reply.{Reply}
 use Rattle.lb_model.specs.Step.{State, first, after, step}
 use Rattle.lb_model.specs.Journal.{Speaks, Follows, FollowsSaid, MadeFrom, IsMade}
 use Rattle.lb_model.specs.Replay.{Steps, Replies, Runs, Replay, Rep}

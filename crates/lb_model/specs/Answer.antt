@@ -15,10 +15,10 @@ use Rattle.lb_stmt.specs.declared.write.Stmt.TheVariants as stmts
 use Rattle.lb_model.specs.declared.catalog.PermissionRec.{PermissionRec}
 use Rattle.lb_model.specs.declared.catalog.TableRec.{TableRec}
 use Rattle.lb_model.specs.declared.catalog.TableVersion.{TableVersion}
-use Rattle.lb_model.specs.declared.reply.Reply.{Reply}
-use Rattle.lb_model.specs.declared.reply.Reply.TheVariants as replies
-use Rattle.lb_model.specs.declared.refusal.Refusal.TheVariants as refusals
-use Rattle.lb_model.specs.declared.reply.Verb.TheVariants as verbs
+use Rattle.lb_cat.specs.declared.reply.Reply.{Reply}
+use Rattle.lb_cat.specs.declared.reply.Reply.TheVariants as replies
+use Rattle.lb_cat.specs.declared.refusal.Refusal.TheVariants as refusals
+use Rattle.lb_cat.specs.declared.reply.Verb.TheVariants as verbs
 use Rattle.lb_model.specs.Evaluation.{ExprLayer}
 use Rattle.lb_model.specs.Catalog.{Cat, Tables, table_named, rows_of}
 use Rattle.lb_model.specs.Visible.{enabled, is_allowed, visible}

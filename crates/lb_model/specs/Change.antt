@@ -29,10 +29,10 @@ use Rattle.lb_stmt.specs.declared.change.Change.TheVariants as changes
 use Rattle.lb_model.specs.declared.catalog.ColumnRec.{ColumnRec}
 use Rattle.lb_model.specs.declared.catalog.PermissionRec.{PermissionRec}
 use Rattle.lb_model.specs.declared.catalog.TableRec.{TableRec}
-use Rattle.lb_model.specs.declared.reply.Reply.{Reply}
-use Rattle.lb_model.specs.declared.reply.Reply.TheVariants as replies
-use Rattle.lb_model.specs.declared.refusal.Refusal.{Refusal}
-use Rattle.lb_model.specs.declared.refusal.Refusal.TheVariants as refusals
+use Rattle.lb_cat.specs.declared.reply.Reply.{Reply}
+use Rattle.lb_cat.specs.declared.reply.Reply.TheVariants as replies
+use Rattle.lb_cat.specs.declared.refusal.Refusal.{Refusal}
+use Rattle.lb_cat.specs.declared.refusal.Refusal.TheVariants as refusals
 use Rattle.lb_model.specs.Evaluation.{ExprLayer, CondLayer}
 use Rattle.lb_model.specs.Catalog.{Cat, Tables, table_named, put_version, with_changed, has_column, has_permission}
 

@@ -5,9 +5,9 @@ use Rattle.lb_tok.specs.Canonical.{canonical}
 use Rattle.lb_tok.specs.Spelled.{IsSpoken}
 use Rattle.lb_tok.specs.Syntax.{IsRepeatable}
 use Rattle.lb_base.specs.Days.{IsDay}
-use Rattle.lb_model.specs.declared.entry.Said.{Said}
-use Rattle.lb_model.specs.declared.entry.Entry.{Entry}
-use Rattle.lb_model.specs.declared.entry.Entry.TheVariants as entries
+use Rattle.lb_cat.specs.declared.entry.Said.{Said}
+use Rattle.lb_cat.specs.declared.entry.Entry.{Entry}
+use Rattle.lb_cat.specs.declared.entry.Entry.TheVariants as entries
 
 -- the text is the canonical text of the statement, which some text spells
 abbrev pub Speaks : List ℕ → Stmt → Type 0

@@ -4,7 +4,6 @@ pub mod Change
 pub mod Evaluation
 pub mod Journal
 pub mod NotYet
-pub mod Numbers
 pub mod Out
 pub mod Replay
 pub mod Roots

@@ -7,22 +7,22 @@ use Rattle.lb_base.specs.declared.rule.Rule.{Rule}
 use Rattle.lb_base.specs.declared.rule.Rule.TheVariants as rules
 use Rattle.lb_tok.specs.Dates.{date_text}
 use Rattle.lb_tok.specs.Spacing.{quoted}
-use Rattle.lb_model.specs.declared.reply.Answer.{Answer}
-use Rattle.lb_model.specs.declared.reply.Mark.{Mark}
-use Rattle.lb_model.specs.declared.reply.Mark.TheVariants as marks
-use Rattle.lb_model.specs.declared.reply.Verb.{Verb}
-use Rattle.lb_model.specs.declared.reply.Verb.TheVariants as verbs
-use Rattle.lb_model.specs.declared.reply.Reply.{Reply}
-use Rattle.lb_model.specs.declared.reply.Reply.TheVariants as replies
-use Rattle.lb_model.specs.declared.refusal.Flaw.{Flaw}
-use Rattle.lb_model.specs.declared.refusal.Flaw.TheVariants as flaws
-use Rattle.lb_model.specs.declared.refusal.LimitOf.{LimitOf}
-use Rattle.lb_model.specs.declared.refusal.LimitOf.TheVariants as limits
-use Rattle.lb_model.specs.declared.refusal.Refusal.{Refusal}
-use Rattle.lb_model.specs.declared.refusal.Refusal.TheVariants as refusals
-use Rattle.lb_model.specs.declared.refusal.NeededPrivilege.{NeededPrivilege}
-use Rattle.lb_model.specs.declared.refusal.NeededPrivilege.TheVariants as needed
-use Rattle.lb_model.specs.Numbers.{refusal_number}
+use Rattle.lb_cat.specs.declared.answer.Answer.{Answer}
+use Rattle.lb_cat.specs.declared.answer.Mark.{Mark}
+use Rattle.lb_cat.specs.declared.answer.Mark.TheVariants as marks
+use Rattle.lb_cat.specs.declared.reply.Verb.{Verb}
+use Rattle.lb_cat.specs.declared.reply.Verb.TheVariants as verbs
+use Rattle.lb_cat.specs.declared.reply.Reply.{Reply}
+use Rattle.lb_cat.specs.declared.reply.Reply.TheVariants as replies
+use Rattle.lb_cat.specs.declared.refusal.Flaw.{Flaw}
+use Rattle.lb_cat.specs.declared.refusal.Flaw.TheVariants as flaws
+use Rattle.lb_cat.specs.declared.refusal.LimitOf.{LimitOf}
+use Rattle.lb_cat.specs.declared.refusal.LimitOf.TheVariants as limits
+use Rattle.lb_cat.specs.declared.refusal.Refusal.{Refusal}
+use Rattle.lb_cat.specs.declared.refusal.Refusal.TheVariants as refusals
+use Rattle.lb_cat.specs.declared.refusal.NeededPrivilege.{NeededPrivilege}
+use Rattle.lb_cat.specs.declared.refusal.NeededPrivilege.TheVariants as needed
+use Rattle.lb_cat.specs.Numbers.{refusal_number}
 
 abbrev pub line : List ℕ → List ℕ
 line text = text ++ 10 ∷ []

@@ -1,8 +1,8 @@
 -- The root of a place: of a statement the place of its session's Open, of an Open the place itself.
 use Rattle.std.specs.Prelude.{ℕ, zero, suc, ◌+◌, List, [], ◌∷◌, take, slice_get, Option, Some, None}
-use Rattle.lb_model.specs.declared.entry.Said.{Said}
-use Rattle.lb_model.specs.declared.entry.Entry.{Entry}
-use Rattle.lb_model.specs.declared.entry.Entry.TheVariants as entries
+use Rattle.lb_cat.specs.declared.entry.Said.{Said}
+use Rattle.lb_cat.specs.declared.entry.Entry.{Entry}
+use Rattle.lb_cat.specs.declared.entry.Entry.TheVariants as entries
 
 -- the place of the Open with that number, counted from a place, or else the place given
 abbrev pub open_place : ℕ → List Entry → ℕ → ℕ → ℕ

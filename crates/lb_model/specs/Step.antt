@@ -6,7 +6,7 @@ use Rattle.lb_base.specs.declared.key.Key.TheVariants as keys
 use Rattle.lb_stmt.specs.declared.write.Stmt.{Stmt}
 use Rattle.lb_stmt.specs.declared.write.Stmt.TheVariants as stmts
 use Rattle.lb_model.specs.declared.catalog.TableVersion.{TableVersion}
-use Rattle.lb_model.specs.declared.reply.Reply.{Reply}
+use Rattle.lb_cat.specs.declared.reply.Reply.{Reply}
 use Rattle.lb_model.specs.Catalog.{Cat, Tables, put_maybe}
 use Rattle.lb_model.specs.Answer.{Answered, answer}
 use Rattle.lb_model.specs.Change.{Changed, change}

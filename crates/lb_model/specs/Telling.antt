@@ -1,9 +1,9 @@
 -- What is told so far: within a session, and of one section after others.
 use Rattle.std.specs.Prelude.{ℕ, ℤ, ◌≡◌, ◌+◌, ◌<◌, List, [], ◌∷◌, ◌++◌, take, length}
-use Rattle.lb_model.specs.declared.entry.Entry.{Entry}
-use Rattle.lb_model.specs.declared.entry.Entry.TheVariants as entries
-use Rattle.lb_model.specs.declared.entry.Said.{Said}
-use Rattle.lb_model.specs.declared.reply.Answer.{Answer}
+use Rattle.lb_cat.specs.declared.entry.Entry.{Entry}
+use Rattle.lb_cat.specs.declared.entry.Entry.TheVariants as entries
+use Rattle.lb_cat.specs.declared.entry.Said.{Said}
+use Rattle.lb_cat.specs.declared.answer.Answer.{Answer}
 use Rattle.lb_model.specs.Journal.{mine, opens}
 use Rattle.lb_model.specs.Told.{Told, places, count_from}
 use Rattle.lb_model.specs.Sections.{Section, SectionResult, IsTold, places_in}

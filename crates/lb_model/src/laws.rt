@@ -1,9 +1,9 @@
 // Laws over the definitions. Each is the contract of a function that does nothing.
 ghost use Rattle.std.specs.Prelude.{◌≡◌, ◌≤◌, ◌<◌, ◌++◌, ℕ, List, Some, length, slice_get};
-ghost use Rattle.lb_model.specs.declared.entry.Entry.{Entry};
-ghost use Rattle.lb_model.specs.declared.entry.Entry.TheVariants as entries;
-ghost use Rattle.lb_model.specs.declared.entry.Said.{Said};
-ghost use Rattle.lb_model.specs.declared.reply.Reply.{Reply};
+ghost use Rattle.lb_cat.specs.declared.entry.Entry.{Entry};
+ghost use Rattle.lb_cat.specs.declared.entry.Entry.TheVariants as entries;
+ghost use Rattle.lb_cat.specs.declared.entry.Said.{Said};
+ghost use Rattle.lb_cat.specs.declared.reply.Reply.{Reply};
 ghost use Rattle.lb_model.specs.Journal.{IsMade};
 ghost use Rattle.lb_model.specs.Step.{State};
 ghost use Rattle.lb_model.specs.Replay.{Replay, Rep};

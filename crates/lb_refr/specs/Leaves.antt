@@ -1,7 +1,7 @@
 -- What a change leaves, told of the records and the rows.
 use Rattle.std.specs.Prelude.{◌≡◌, List}
 use Rattle.lb_model.specs.declared.catalog.TableRec.{TableRec}
-use Rattle.lb_model.specs.declared.reply.Reply.{Reply}
+use Rattle.lb_cat.specs.declared.reply.Reply.{Reply}
 use Rattle.lb_model.specs.Catalog.{Tables}
 use Rattle.lb_model.specs.Change.{Changed}
 

@@ -1,7 +1,7 @@
 -- What a store holds, and what a statement that ran left in it.
 use Rattle.std.specs.Prelude.{ℕ, ℤ, ◌≡◌, List}
 use Rattle.lb_stmt.specs.declared.write.Stmt.{Stmt}
-use Rattle.lb_model.specs.declared.reply.Reply.{Reply}
+use Rattle.lb_cat.specs.declared.reply.Reply.{Reply}
 use Rattle.lb_model.specs.Catalog.{Cat, Tables}
 use Rattle.lb_model.specs.Step.{outcome}
 

@@ -9,7 +9,8 @@ use crate::find::{is_permission, place_of_table, place_of_version, table_of};
 use crate::permission::{missing_column, new_permission};
 use crate::refused::{exists, unknown};
 use lb_base::{Listing, Name, NoMemory, Ty};
-use lb_model::{ColumnRec, Reply, TableRec, TableVersion};
+use lb_cat::Reply;
+use lb_model::{ColumnRec, TableRec, TableVersion};
 use lb_stmt::{Change, ColumnType, Element, PermissionDef, PlainType};
 use std::alloc::Global;
 

@@ -10,7 +10,8 @@ use crate::condition::is_row_allowed;
 use crate::find::{place_of_version, table_of};
 use crate::refused::unknown;
 use lb_base::{Listing, Name, NoMemory, Row, RowList};
-use lb_model::{Reply, TableRec, TableVersion};
+use lb_cat::Reply;
+use lb_model::{TableRec, TableVersion};
 use lb_tree::{Chain, Query};
 use std::alloc::Global;
 

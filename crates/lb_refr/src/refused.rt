@@ -1,10 +1,10 @@
 // Refusals that name what they speak of.
 ghost use Rattle.std.specs.Prelude.{◌≡◌, IfOk};
-ghost use Rattle.lb_model.specs.declared.reply.Reply.TheVariants as replies;
-ghost use Rattle.lb_model.specs.declared.refusal.Refusal.TheVariants as refusals;
+ghost use Rattle.lb_cat.specs.declared.reply.Reply.TheVariants as replies;
+ghost use Rattle.lb_cat.specs.declared.refusal.Refusal.TheVariants as refusals;
 
 use lb_base::{NoMemory, Str};
-use lb_model::{Refusal, Reply};
+use lb_cat::{Refusal, Reply};
 use std::alloc::Global;
 
 /// There is nothing of that name.

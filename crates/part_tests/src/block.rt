@@ -1,7 +1,7 @@
 // Blocks of answers, one for each reply and each refusal, against texts that were written by hand.
 use lb_base::{Listing, Name, NoMemory, Row, RowList, Rule, Str, Value};
 use lb_block::{bad_script, block, header};
-use lb_model::{Answer, Flaw, LimitOf, Mark, NeededPrivilege, Refusal, Reply, Verb};
+use lb_cat::{Answer, Flaw, LimitOf, Mark, NeededPrivilege, Refusal, Reply, Verb};
 use std::alloc::{AllocError, Global};
 use std::test::Fail;
 

@@ -1,7 +1,7 @@
 // The lines of a printed journal, against texts that were written by hand.
 use lb_base::{Listing, Name, Names, NoMemory, Str};
 use lb_block::{entry, journal};
-use lb_model::{Entry, Said};
+use lb_cat::{Entry, Said};
 use std::alloc::{AllocError, Global};
 use std::test::Fail;
 

@@ -1,6 +1,6 @@
 use Rattle.std.proofs.Common.{◌≡◌, ◌∙◌, ap, length, arith, List, ◌∷◌, ◌++◌, []}
-use Rattle.lb_model.specs.declared.entry.Entry.{Entry}
-use Rattle.lb_model.specs.declared.entry.Entry.TheVariants as entries
+use Rattle.lb_cat.specs.declared.entry.Entry.{Entry}
+use Rattle.lb_cat.specs.declared.entry.Entry.TheVariants as entries
 use Rattle.lb_front.proofs.Committed.{committed, added_of, answer_is, stands_of, session_grown}
 use Rattle.lb_front.proofs.book.Book.commit.Goals as goal
 

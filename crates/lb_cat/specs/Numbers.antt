@@ -1,7 +1,7 @@
 -- The number of each refusal, as replies print it. A number stays the same when refusals come or go.
 use Rattle.std.specs.Prelude.{ℕ}
-use Rattle.lb_model.specs.declared.refusal.Refusal.{Refusal}
-use Rattle.lb_model.specs.declared.refusal.Refusal.TheVariants.{Syntax, Unknown, Exists, Types, Privilege, NotSecadm, ColumnRead, ColumnWrite, RowWrite, LabelWrite, NoWriteLabel, RowPermission, MaskedSource, MaskGroup, DuplicateKey, Overflow, ManyRows, InUse, BadLabel, GrantMismatch, Limit, JournalFull, NullValue, TooWide, BadSource, BadTable, NotYet}
+use Rattle.lb_cat.specs.declared.refusal.Refusal.{Refusal}
+use Rattle.lb_cat.specs.declared.refusal.Refusal.TheVariants.{Syntax, Unknown, Exists, Types, Privilege, NotSecadm, ColumnRead, ColumnWrite, RowWrite, LabelWrite, NoWriteLabel, RowPermission, MaskedSource, MaskGroup, DuplicateKey, Overflow, ManyRows, InUse, BadLabel, GrantMismatch, Limit, JournalFull, NullValue, TooWide, BadSource, BadTable, NotYet}
 
 abbrev pub refusal_number : Refusal → ℕ
 refusal_number (Syntax at) = 1
