@@ -1,5 +1,5 @@
--- What stays: the records and rows of keys that a change doesn't touch, and the dependencies of a statement where their records stay.
-use Rattle.std.specs.Prelude.{ℕ, ◌≡◌, false, List, find}
+-- What stays: the records and rows of keys that a change doesn't touch, all users, and the dependencies of a statement where their records stay.
+use Rattle.std.specs.Prelude.{ℕ, ◌≡◌, true, false, List, find, is_some}
 use Rattle.std.specs.List.{AllByRecursion}
 use Rattle.lb_base.specs.declared.key.Key.{Key}
 use Rattle.lb_base.specs.declared.key.Key.TheVariants as keys
@@ -32,6 +32,10 @@ SameRows T U (keys.User n) = Unit {0}
 abbrev pub UntouchedStays : Checks → Type 0
 UntouchedStays K = (C : Cat) (T : Tables) (user : List ℕ) (s : Change) (k : Key) → has_key k (change K C T user s).touched ≡ false
     → SameRecord C (change K C T user s).cat k × SameRows T (change K C T user s).tables k
+
+-- no change takes a user's record away
+abbrev pub UsersStay : Checks → Type 0
+UsersStay K = (C : Cat) (T : Tables) (user : List ℕ) (s : Change) (n : List ℕ) → is_some (user_named C n) ≡ true → is_some (user_named (change K C T user s).cat n) ≡ true
 
 -- the two catalogues have the same records under some keys
 abbrev pub SameOn : List Key → Cat → Cat → Type 0

@@ -1,5 +1,5 @@
 // Laws over the definitions. Each is the contract of a function that does nothing.
-ghost use Rattle.lb_alter.specs.Frame.{DepsStay, UntouchedStays};
+ghost use Rattle.lb_alter.specs.Frame.{DepsStay, UntouchedStays, UsersStay};
 ghost use Rattle.lb_alter.specs.Laws.{
   CredentialsFit,
   FirstIsSound,
@@ -45,6 +45,11 @@ pub fn worked_controls()
 /// A key that a change doesn't touch has the same record and the same rows afterwards.
 pub fn untouched_stays()
     ensures { (K : Checks) → UntouchedStays K }
+{}
+
+/// No change takes a user's record away: a user who has one keeps one, also where nothing is left that was granted.
+pub fn users_stay()
+    ensures { (K : Checks) → UsersStay K }
 {}
 
 /// The catalogue with which every journal begins is sound.
