@@ -1,5 +1,5 @@
 -- A plan that is right stays right as long as no stamp of what its statement depends on moves.
-use Rattle.std.specs.Prelude.{ℕ, ℤ, ◌≡◌, ◌↔◌, List, length}
+use Rattle.std.specs.Prelude.{ℤ, ◌≡◌, ◌↔◌, List, length}
 use Rattle.std.specs.List.{AllByRecursion}
 use Rattle.lb_base.specs.declared.key.Key.{Key}
 use Rattle.lb_stmt.specs.declared.write.Stmt.{Stmt}

@@ -36,8 +36,8 @@ pub fn root_stays()
     ensures stays { (J K : List Entry) (k : ℕ) → k < length J → root (J ++ K) k ≡ root J k }
 {}
 
-/// What isn't there has the stamp 0. But for users, what is there has a stamp above 0; and where a key's stamp is what it was, so
-/// are its record and its rows.
+/// What isn't there has the stamp 0. What is there has a stamp above 0, or is as it was in the first state. And where a key's stamp
+/// is what it was, so are its record and its rows.
 pub fn stamps_tell()
     ensures absent { AbsentIsZero }
     ensures there { StampsTell }
