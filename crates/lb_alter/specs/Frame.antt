@@ -10,7 +10,7 @@ use Rattle.lb_cat.specs.Keys.{has_key}
 use Rattle.lb_cat.specs.Catalog.{Cat, table_named, policy_named, component_named, user_named}
 use Rattle.lb_alter.specs.Stored.{Checks}
 use Rattle.lb_alter.specs.Change.{change}
-use Rattle.lb_alter.specs.Deps.{deps}
+use Rattle.lb_alter.specs.Deps.{deps, write_deps}
 
 -- the two catalogues have the same record under the key
 abbrev pub SameRecord : Cat → Cat → Key → Type 0
@@ -44,3 +44,7 @@ SameOn ks C D = AllByRecursion (SameRecord C D) ks
 -- what a statement depends on is the same where the records that it depends on are
 abbrev pub DepsStay : Type 0
 DepsStay = (C D : Cat) (s : Stmt) → SameOn (deps C s) C D → deps D s ≡ deps C s
+
+-- and so is what the commit of a write depends on
+abbrev pub WriteDepsStay : Type 0
+WriteDepsStay = (C D : Cat) (s : Stmt) (user : List ℕ) → SameOn (deps C s) C D → write_deps D s user ≡ write_deps C s user

@@ -1,5 +1,5 @@
 // Laws over the definitions. Each is the contract of a function that does nothing.
-ghost use Rattle.lb_alter.specs.Frame.{DepsStay, UntouchedStays, UsersStay};
+ghost use Rattle.lb_alter.specs.Frame.{DepsStay, UntouchedStays, UsersStay, WriteDepsStay};
 ghost use Rattle.lb_alter.specs.Laws.{
   CredentialsFit,
   FirstIsSound,
@@ -57,9 +57,11 @@ pub fn first_is_sound()
     ensures { (K : Checks) → FirstIsSound K }
 {}
 
-/// What a statement depends on is the same where the records that it depends on are.
+/// What a statement depends on is the same where the records that it depends on are, and so is what the commit of a write depends
+/// on.
 pub fn dependencies_stay()
-    ensures { DepsStay }
+    ensures plans { DepsStay }
+    ensures writes { WriteDepsStay }
 {}
 
 /// What is asked of the rules of names and types can be met.

@@ -9,7 +9,7 @@ ghost use Rattle.lb_journal.specs.State.{State};
 ghost use Rattle.lb_journal.specs.Replay.{Replay, Rep};
 ghost use Rattle.lb_journal.specs.Roots.{root};
 ghost use Rattle.lb_journal.specs.Engine.{RightGives};
-ghost use Rattle.lb_journal.specs.Lasting.{AnswerStays, RightLasts};
+ghost use Rattle.lb_journal.specs.Lasting.{AnswerStays, RightLasts, WriteDependenciesLast};
 ghost use Rattle.lb_journal.specs.Laws.{AbsentIsZero, HasOneReplay, HasOneReply, SameStampSameRecord, StampsTell};
 
 use crate::engine::Engine;
@@ -49,4 +49,10 @@ pub fn stamps_tell()
 pub fn right_plans_last<E: Engine>()
     ensures gives { RightGives E.means E.takes }
     ensures lasts { AnswerStays → RightLasts E.means E.takes }
+{}
+
+/// Where no stamp of what the commit of a write depends on moves, the write depends on the same keys, with the same records and
+/// rows, and the session's credentials are the same so far as these keys decide them.
+pub fn write_dependencies_last()
+    ensures { WriteDependenciesLast }
 {}
