@@ -1,12 +1,11 @@
 -- Where no stamp of what a write depends on moves, its dependencies, their records and rows, and what its session may do stay.
-use Rattle.std.proofs.Common.{◌≡◌, refl, sym, ap, subst, ◌∙◌, ℕ, Bool, true, false, cond, ◌||◌, List, [], ◌∷◌, ◌++◌, map, Option, Some, None}
+use Rattle.std.proofs.Common.{◌≡◌, refl, sym, ap, subst, ◌∙◌, ℕ, true, false, cond, ◌||◌, List, [], ◌∷◌, ◌++◌, map, Option, Some}
 use Rattle.std.specs.Prelude.{find, unwrap_or}
 use Rattle.std.specs.List.{AllByRecursion}
 use Rattle.std.specs.Str.{bytes_eq}
 use Rattle.std.proofs.lemmas.Slice.Eq.{bytes_eq-Decides}
 use Rattle.lb_base.specs.declared.key.Key.{Key}
 use Rattle.lb_base.specs.declared.key.Key.TheVariants as keys
-use Rattle.lb_stmt.specs.declared.write.Stmt.{Stmt}
 use Rattle.lb_cat.specs.declared.catalog.Holding.{Holding}
 use Rattle.lb_cat.specs.declared.cred.CredLabel.{CredLabel}
 use Rattle.lb_cat.specs.Catalog.{Cat, Policy, User, policy_named, user_named, no_user}
@@ -19,7 +18,7 @@ use Rattle.lb_alter.proofs.SoundUsers.{all_follow}
 use Rattle.lb_alter.proofs.Steady.{same_is, all_once, all_front, all_after, write_deps_stay}
 use Rattle.lb_journal.specs.State.{State}
 use Rattle.lb_journal.specs.Laws.{SameAt}
-use Rattle.lb_journal.specs.Lasting.{SameStamps, SameCredentials, WriteStays, WriteDependenciesLast}
+use Rattle.lb_journal.specs.Lasting.{SameStamps, SameCredentials, WriteDependenciesLast}
 use Rattle.lb_journal.proofs.Stamps.{same_record}
 
 -- ---- keys

@@ -36,7 +36,7 @@ AnswerStays = (C D : Cat) (c : Cred) (T : Tables) (day : ℤ) (s : Stmt) → IsS
 
 -- ---- writes
 
--- The second credentials are the first ones, but for what is held of policies that aren't among the keys: the labels of these may have changed.
+-- The second credentials are the first ones, but for what is held of policies that aren't among the keys, of which nothing is said.
 pub record SameCredentials (ks : List Key) (c d : Cred) : Type 0 where
   pub user : d.user ≡ c.user
   pub groups : d.groups ≡ c.groups
