@@ -23,7 +23,7 @@ pub fn queries_have_a_frame()
 
 /// Two catalogues that have the same of these refuse a query alike by privileges, protected columns and masks, and so answer it alike
 /// where names and types are refused alike.
-pub fn catalogues_answer_alike()
+pub fn catalogues_answer_queries_alike()
     ensures refusals { RefusalFrame }
     ensures answer { AcrossFrame }
 {}
