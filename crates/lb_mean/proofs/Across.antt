@@ -7,7 +7,7 @@ use Rattle.lb_mean.proofs.Access.{access_same}
 use Rattle.lb_mean.proofs.Seen.{rows_frame}
 
 pub refusal_frame : RefusalFrame
-refusal_frame C D c T U s h = access_same C D T U c s h
+refusal_frame C D c T s h = access_same C D T T c s h
 
 pub across_frame : AcrossFrame
-across_frame checks C D c T U day s h same = λ i. unless_refused (first_some (same i ∷ refusal_frame C D c T U s h i ∷ [])) (rows_frame C D c T U day s h i)
+across_frame checks C D c T U day s h same = λ i. unless_refused (first_some (same i ∷ access_same C D T U c s h i ∷ [])) (rows_frame C D c T U day s h i)

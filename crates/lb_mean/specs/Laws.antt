@@ -70,9 +70,10 @@ abbrev pub AnswerFrame : Type 0
 AnswerFrame = (checks : Checks) (C : Cat) (c : Cred) (T U : Tables) (day : ℤ) (s : Select) → Agrees (SameMention C C T U) (in_select s)
     → query_answer checks C c T day s ≡ query_answer checks C c U day s
 
--- The refusals of a query by privileges, protected columns and masks depend on the same records, also across two catalogues.
+-- The refusal of a query by privileges, protected columns and masks depends on the same records, whatever the rows: those of one
+-- list are the same in both catalogues.
 abbrev pub RefusalFrame : Type 0
-RefusalFrame = (C D : Cat) (c : Cred) (T U : Tables) (s : Select) → Agrees (SameMention C D T U) (in_select s) → access_refused C c s ≡ access_refused D c s
+RefusalFrame = (C D : Cat) (c : Cred) (T : Tables) (s : Select) → Agrees (SameMention C D T T) (in_select s) → access_refused C c s ≡ access_refused D c s
 
 -- so the answer of a query is the same in two catalogues with the same of these, if names and types are refused alike
 abbrev pub AcrossFrame : Type 0

@@ -21,8 +21,8 @@ pub fn queries_have_a_frame()
     ensures answer { AnswerFrame }
 {}
 
-/// Two catalogues that have the same of these refuse a query alike by privileges, protected columns and masks, and so answer it alike
-/// where names and types are refused alike.
+/// Two catalogues that have the same records of what a query mentions, and of what its tables mention, refuse it alike by privileges,
+/// protected columns and masks. Over the same rows they answer it alike, where names and types are refused alike.
 pub fn catalogues_answer_queries_alike()
     ensures refusals { RefusalFrame }
     ensures answer { AcrossFrame }
