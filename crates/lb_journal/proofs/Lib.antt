@@ -5,3 +5,4 @@ pub mod There
 pub mod Lasting
 pub mod Writes
 pub mod Agreeing
+pub mod Answering

@@ -44,11 +44,16 @@ pub fn stamps_tell()
     ensures same { SameStampSameRecord }
 {}
 
+/// Two sound catalogues with the same records under what a statement depends on answer it alike, for each session, tables and day.
+pub fn answers_stay()
+    ensures { AnswerStays }
+{}
+
 /// What an engine's plan that is right for a statement answers, where session and tables fit; and such a plan stays right while
 /// no stamp of what the statement depends on moves.
 pub fn right_plans_last<E: Engine>()
     ensures gives { RightGives E.means E.takes }
-    ensures lasts { AnswerStays → RightLasts E.means E.takes }
+    ensures lasts { RightLasts E.means E.takes }
 {}
 
 /// Where no stamp of what the commit of a write depends on moves, the write depends on the same keys, with the same records and
