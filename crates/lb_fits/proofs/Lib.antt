@@ -1,3 +1,6 @@
 mod Steps
 mod Putting
 mod Deleting
+mod Stored
+mod Columns
+mod NewRows

@@ -1,16 +1,19 @@
 -- What is said of the rows that writes leave: they fit their table.
-use Rattle.std.specs.Prelude.{◌≡◌, ℤ, List, Option, Some, Ok}
+use Rattle.std.specs.Prelude.{ℕ, ◌≡◌, ℤ, List, Option, Some, Ok}
 use Rattle.lb_base.specs.declared.value.Value.{Value}
 use Rattle.lb_stmt.specs.declared.write.Delete.{Delete}
 use Rattle.lb_cat.specs.declared.cred.Cred.{Cred}
 use Rattle.lb_cat.specs.Catalog.{Cat, Table, Policy}
 use Rattle.lb_rows.specs.Tables.{Tables, Version, put_version}
 use Rattle.lb_mean.specs.Answer.{Checks}
+use Rattle.lb_mean.specs.Refused.{policy_of_table}
 use Rattle.lb_answer.specs.Basis.{Basis}
 use Rattle.lb_answer.specs.Answer.{Answered, delete_answer}
+use Rattle.lb_answer.specs.Checks.{stored_label, new_row}
 use Rattle.lb_answer.specs.Writes.{Written, deleted}
-use Rattle.lb_alter.specs.Fits.{RowsFit}
+use Rattle.lb_alter.specs.Fits.{FitsTable, RowsFit}
 use Rattle.lb_alter.specs.Laws.{AllTablesFit}
+use Rattle.lb_fits.specs.Given.{IsItsLabel, IsNullOrItsLabel, OwnFits, GivesPlaces, KeepsColumns, OldFits}
 
 -- where rows are left, all tables fit with them in their place
 abbrev pub LeavesFit : Cat → Tables → Answered → Type 0
@@ -26,3 +29,14 @@ DeletedFits = (C : Cat) (t : Table) (p : Option Policy) (b : Basis (List Value))
 -- a DELETE keeps that all tables fit, whatever catalogue and credentials
 abbrev pub DeletesFit : Type 0
 DeletesFit = (checks : Checks) (C : Cat) (c : Cred) (T : Tables) (day : ℤ) (d : Delete) → AllTablesFit C T → LeavesFit C T (delete_answer C c T day checks d)
+
+-- ---- the row that a candidate makes
+
+-- the label that is stored is a label of the table's policy, where the given one is null or a label of it, as the session's own is
+abbrev pub StoredFits : {S : Type 0} → Option Policy → Basis S → Table → Value → Value → Type 0
+StoredFits p b t l stored = OwnFits p b.own_label → IsNullOrItsLabel p l → stored_label p b t l ≡ Ok stored → IsItsLabel p stored
+
+-- the new row fits the table, where the old one does and each value is null or of the kind of its column
+abbrev pub NewFits : {S : Type 0} → Cat → Table → Basis S → List ℕ → Option (List Value) → S → List Value → Type 0
+NewFits C t b places old source new = KeepsColumns C t → OwnFits (policy_of_table C t) b.own_label → OldFits C t old → GivesPlaces C t places (b.values source)
+    → new_row (policy_of_table C t) b t places old source ≡ Ok new → FitsTable C t new

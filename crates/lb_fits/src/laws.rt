@@ -1,5 +1,10 @@
 // Laws over the definitions. Each is the contract of a function that does nothing but name the laws that it rests on.
-ghost use Rattle.lb_fits.specs.Laws.{DeletedFits, DeletesFit};
+ghost use Rattle.std.specs.Prelude.{ℕ, List};
+ghost use Rattle.std.specs.declared.option.Option.{Option};
+ghost use Rattle.lb_base.specs.declared.value.Value.{Value};
+ghost use Rattle.lb_cat.specs.Catalog.{Cat, Table, Policy};
+ghost use Rattle.lb_answer.specs.Basis.{Basis};
+ghost use Rattle.lb_fits.specs.Laws.{DeletedFits, DeletesFit, StoredFits, NewFits};
 
 /// The rows that a DELETE leaves fit their table where its rows did: they are some of these, their keys stay different, and they
 /// have no more cells. So after a DELETE that is answered with rows all tables fit where all did before.
@@ -9,3 +14,15 @@ pub fn deletes_keep_fits()
 {
     lb_answer::candidates_are_kept_rows();
 }
+
+/// The label that a write stores is a label of the table's policy, be it the given one or the session's own, where the given one is
+/// null or a label of it and the session's own is one.
+pub fn stored_labels_fit<S>()
+    ensures { (p : Option Policy) (b : Basis S) (t : Table) (l stored : Value) → StoredFits p b t l stored }
+{}
+
+/// The row that a candidate makes fits its table, where its old row does, and each value that is given is null or of the kind of
+/// its column: no null where none may be, no text that is too wide, and the stored label in the label column.
+pub fn candidate_rows_fit<S>()
+    ensures { (C : Cat) (t : Table) (b : Basis S) (places : List ℕ) (old : Option (List Value)) (source : S) (new : List Value) → NewFits C t b places old source new }
+{}

@@ -3,4 +3,4 @@
 
 mod laws;
 
-pub use laws::deletes_keep_fits;
+pub use laws::{candidate_rows_fit, deletes_keep_fits, stored_labels_fit};
