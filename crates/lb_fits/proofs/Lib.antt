@@ -4,3 +4,5 @@ mod Deleting
 mod Stored
 mod Columns
 mod NewRows
+mod KeyTests
+mod Written

@@ -4,7 +4,9 @@ ghost use Rattle.std.specs.declared.option.Option.{Option};
 ghost use Rattle.lb_base.specs.declared.value.Value.{Value};
 ghost use Rattle.lb_cat.specs.Catalog.{Cat, Table, Policy};
 ghost use Rattle.lb_answer.specs.Basis.{Basis};
-ghost use Rattle.lb_fits.specs.Laws.{DeletedFits, DeletesFit, StoredFits, NewFits};
+ghost use Rattle.lb_base.specs.Evaluated.{Evaluated};
+ghost use Rattle.lb_answer.specs.Writes.{Written};
+ghost use Rattle.lb_fits.specs.Laws.{DeletedFits, DeletesFit, StoredFits, NewFits, KeysAgree, UpdatedFits, InsertedFits};
 
 /// The rows that a DELETE leaves fit their table where its rows did: they are some of these, their keys stay different, and they
 /// have no more cells. So after a DELETE that is answered with rows all tables fit where all did before.
@@ -25,4 +27,24 @@ pub fn stored_labels_fit<S>()
 /// its column: no null where none may be, no text that is too wide, and the stored label in the label column.
 pub fn candidate_rows_fit<S>()
     ensures { (C : Cat) (t : Table) (b : Basis S) (places : List ℕ) (old : Option (List Value)) (source : S) (new : List Value) → NewFits C t b places old source new }
+{}
+
+/// Where each row fits its table, the test of keys that a write makes and the one that a table's rows keep agree: no two rows have
+/// one key exactly where the keys differ.
+pub fn tests_of_keys_agree()
+    ensures { KeysAgree }
+{}
+
+/// The rows that an UPDATE leaves fit their table where its rows did, and each value that is set is null or of the kind of its
+/// column: new rows fit, the others stay, keys are tested, and there are as many rows as before.
+pub fn updated_rows_fit()
+    ensures { UpdatedFits }
+{
+    lb_answer::candidates_are_kept_rows();
+}
+
+/// The rows that an INSERT leaves fit their table where its rows did, and each value that is given is null or of the kind of its
+/// column: new rows fit, and keys and cells are tested.
+pub fn inserted_rows_fit<S>()
+    ensures { (C : Cat) (t : Table) (b : Basis S) (places : List ℕ) (sources : Evaluated (List S)) (rows : List (List Value)) (w : Written) → InsertedFits C t b places sources rows w }
 {}
