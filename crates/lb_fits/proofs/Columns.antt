@@ -11,7 +11,7 @@ use Rattle.lb_answer.specs.Checks.{written, with_label, begun, label_place}
 use Rattle.lb_alter.specs.Fits.{HasType, FitsColumn}
 use Rattle.lb_kinds.specs.HasKind.{HasKind}
 use Rattle.lb_kinds.specs.Settings.{kind_of}
-use Rattle.lb_fits.specs.Given.{FitsKind, FitsKindIfThere, FitsPlace, OldFits}
+use Rattle.lb_fits.specs.Given.{FitsKind, FitsKindIfThere, ArePlaced, OldFits}
 
 module _ (C : Cat) where
   abbrev pub Loose : List ColumnRec → List Value → Type 0
@@ -67,8 +67,8 @@ module _ (C : Cat) where
     begun_fits None h = nulls t.columns
     begun_fits (Some row) h = unlabelled (label_place t) row (loosely t.columns row h)
 
-    pub written_fits : (places : List ℕ) (vs row : List Value) → AllZip (FitsPlace C t) places vs → Loose t.columns row → Loose t.columns (written places vs row)
+    pub written_fits : (places : List ℕ) (vs row : List Value) → ArePlaced C t places vs → Loose t.columns row → Loose t.columns (written places vs row)
     written_fits [] [] row g h = h
-    written_fits [] (v ∷ vs) row g h = absurd g
-    written_fits (at ∷ places) [] row g h = absurd g
+    written_fits [] (v ∷ vs) row g h = h
+    written_fits (at ∷ places) [] row g h = h
     written_fits (at ∷ places) (v ∷ vs) row g h = written_fits places vs (slice_set row at v) g.1 (set_fits t.columns row at v g.0 h)

@@ -6,3 +6,6 @@ mod Columns
 mod NewRows
 mod KeyTests
 mod Written
+mod Targets
+mod Sessions
+mod Statements

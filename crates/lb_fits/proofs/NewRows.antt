@@ -21,7 +21,7 @@ use Rattle.lb_alter.specs.Labelled.{IsOfPolicy, ColumnBelongs}
 use Rattle.lb_alter.proofs.SoundKinds.{not_more}
 use Rattle.lb_kinds.specs.HasKind.{HasKind, IfResult}
 use Rattle.lb_kinds.specs.Settings.{kind_of}
-use Rattle.lb_fits.specs.Given.{IsItsLabel, IsNullOrItsLabel, OwnFits, GivesPlaces, FitsPlace, KeepsColumns, OldFits}
+use Rattle.lb_fits.specs.Given.{IsItsLabel, IsNullOrItsLabel, OwnFits, GivesPlaces, ArePlaced, KeepsColumns, OldFits}
 use Rattle.lb_fits.specs.Laws.{NewFits}
 use Rattle.lb_fits.proofs.Columns.{Loose, begun_fits, written_fits}
 use Rattle.lb_fits.proofs.Steps.{Got, got, evaluated, same_ok}
@@ -183,7 +183,7 @@ module _ (C : Cat) (t : Table) where
     made_fits : (places : List ℕ) (old : Option (List Value)) (source : S) (row : List Value) → OldFits C t old → GivesPlaces C t places (b.values source) → made P b t places old source ≡ Ok row → Loose C t.columns row
     made_fits places old source row h g e =
         let m = got (or_refused (b.values source)) (λ vs. Ok (written places vs (begun t old))) row e in
-        let vs : AllZip (FitsPlace C t) places m.it = subst (IfResult (λ vs. AllZip (FitsPlace C t) places vs)) (evaluated (b.values source) m.it m.is) g in
+        let vs : ArePlaced C t places m.it = subst (IfResult (ArePlaced C t places)) (evaluated (b.values source) m.it m.is) g in
         subst (Loose C t.columns) (same_ok _ row m.then) (written_fits C t places m.it (begun t old) vs (begun_fits C t old h))
 
 pub new_fits : {S : Type 0} (C : Cat) (t : Table) (b : Basis S) (places : List ℕ) (old : Option (List Value)) (source : S) (new : List Value) → NewFits C t b places old source new

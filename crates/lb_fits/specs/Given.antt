@@ -1,6 +1,5 @@
 -- What the values and labels that a write is given have to be, so that its rows fit their table.
-use Rattle.std.specs.Prelude.{ℕ, ◌≤◌, List, Option, Some, None, count_by, slice_get}
-use Rattle.std.specs.List.{AllZip}
+use Rattle.std.specs.Prelude.{ℕ, ◌≤◌, List, ◌∷◌, Option, Some, None, count_by, slice_get}
 use Rattle.lb_base.specs.declared.value.Value.{Value}
 use Rattle.lb_base.specs.declared.value.Value.TheVariants as values
 use Rattle.lb_base.specs.Evaluated.{Evaluated}
@@ -46,9 +45,14 @@ FitsKindIfThere C (Some c) v = FitsKind C c v
 abbrev pub FitsPlace : Cat → Table → ℕ → Value → Type 0
 FitsPlace C t at v = FitsKindIfThere C (slice_get t.columns at) v
 
--- what is evaluated for these places is a fault, or a value for each of them, null or of the kind of its column
+-- so is each value that is written at one of these places; where one of the lists is longer, its rest isn't written
+abbrev pub ArePlaced : Cat → Table → List ℕ → List Value → Type 0
+ArePlaced C t (at ∷ places) (v ∷ vs) = FitsPlace C t at v × ArePlaced C t places vs
+ArePlaced C t _ _ = Unit {0}
+
+-- what is evaluated for these places is a fault, or values each of which is null or of the kind of its column
 abbrev pub GivesPlaces : Cat → Table → List ℕ → Evaluated (List Value) → Type 0
-GivesPlaces C t places out = IfResult (λ vs. AllZip (FitsPlace C t) places vs) out
+GivesPlaces C t places out = IfResult (ArePlaced C t places) out
 
 -- ---- tables
 

@@ -7,6 +7,7 @@ ghost use Rattle.lb_answer.specs.Basis.{Basis};
 ghost use Rattle.lb_base.specs.Evaluated.{Evaluated};
 ghost use Rattle.lb_answer.specs.Writes.{Written};
 ghost use Rattle.lb_fits.specs.Laws.{DeletedFits, DeletesFit, StoredFits, NewFits, KeysAgree, UpdatedFits, InsertedFits};
+ghost use Rattle.lb_fits.specs.Statements.{UpdatesFit, InsertsFit, WritesFit};
 
 /// The rows that a DELETE leaves fit their table where its rows did: they are some of these, their keys stay different, and they
 /// have no more cells. So after a DELETE that is answered with rows all tables fit where all did before.
@@ -48,3 +49,18 @@ pub fn updated_rows_fit()
 pub fn inserted_rows_fit<S>()
     ensures { (C : Cat) (t : Table) (b : Basis S) (places : List ℕ) (sources : Evaluated (List S)) (rows : List (List Value)) (w : Written) → InsertedFits C t b places sources rows w }
 {}
+
+/// Where a session writes over a sound catalogue whose tables fit, with labels of its policies' shapes, and the rules of types
+/// refuse nothing, every statement that is answered with new rows leaves all tables fitting: UPDATE, INSERT with VALUES and with a
+/// query, and DELETE.
+pub fn writes_keep_fits()
+    ensures updates { UpdatesFit }
+    ensures inserts { InsertsFit }
+    ensures statements { WritesFit }
+{
+    lb_answer::candidates_are_kept_rows();
+    lb_kinds::typed_writes_give_values_of_their_columns();
+    lb_kinds::typed_selects_give_outputs_of_their_kinds();
+    lb_kinds::settings_agree_with_names();
+    lb_kinds::evaluation_begins_with_rows_in_sight();
+}
