@@ -1,5 +1,5 @@
 -- Rows whose values are null or of their columns' kinds: what is written into them keeps that, and what fits a column is of its kind.
-use Rattle.std.proofs.Common.{ℕ, zero, suc, ◌≡◌, refl, List, [], ◌∷◌, map, slice_set, slice_get, Option, Some, None}
+use Rattle.std.proofs.Common.{ℕ, zero, suc, List, [], ◌∷◌, map, slice_set, slice_get, Option, Some, None}
 use Rattle.std.specs.List.{AllZip}
 use Rattle.lb_base.specs.declared.key.Ty.{Ty}
 use Rattle.lb_base.specs.declared.key.Ty.TheVariants as types

@@ -1,17 +1,14 @@
 -- The rows that a DELETE leaves fit.
-use Rattle.std.proofs.Common.{ℕ, suc, ◌≡◌, ◌≤◌, ◌*◌, refl, sym, subst, ap, ◌∙◌, Bool, true, false, not, cond, ◌&&◌, ◌||◌, List, [], ◌∷◌, map, length, Option, Some, None, Ok, Err, arith}
-use Rattle.std.specs.Prelude.{filter, ℤ}
+use Rattle.std.proofs.Common.{ℕ, suc, ◌≡◌, ◌≤◌, ◌*◌, refl, sym, subst, ap, ◌∙◌, Bool, true, false, not, cond, ◌&&◌, ◌||◌, List, [], ◌∷◌, map, length, Option, Some, None, Ok, arith}
+use Rattle.std.specs.Prelude.{filter}
 use Rattle.std.specs.List.{AllByRecursion, list_any}
 use Rattle.std.proofs.lemmas.Nat.{mul-le}
 use Rattle.lb_base.specs.declared.value.Value.{Value}
 use Rattle.lb_base.specs.Compare.{equal_of}
-use Rattle.lb_stmt.specs.declared.write.Delete.{Delete}
-use Rattle.lb_cat.specs.declared.cred.Cred.{Cred}
 use Rattle.lb_cat.specs.declared.reply.Verb.TheVariants as verbs
-use Rattle.lb_cat.specs.Catalog.{Cat, Table, Policy}
+use Rattle.lb_cat.specs.Catalog.{Cat, Table}
 use Rattle.lb_rows.specs.KeyValues.{is_null, is_true, is_repeated, are_keys, value_at, keys_differ}
-use Rattle.lb_rows.specs.Tables.{Tables, rows_of}
-use Rattle.lb_mean.specs.Answer.{Checks}
+use Rattle.lb_rows.specs.Tables.{rows_of}
 use Rattle.lb_mean.specs.Refused.{policy_of_table}
 use Rattle.lb_mean.specs.Visible.{guarded, unguarded}
 use Rattle.lb_answer.specs.Answer.{delete_from}
@@ -22,10 +19,10 @@ use Rattle.lb_answer.specs.Candidates.{Marked, candidates, taken_rows, other_row
 use Rattle.lb_answer.specs.Checks.{is_writable}
 use Rattle.lb_answer.specs.Laws.{AreRows}
 use Rattle.lb_answer.specs.OrRefused.{◌>>=◌, or_refused, all_passed}
-use Rattle.lb_answer.specs.Writes.{Written, deleted}
+use Rattle.lb_answer.specs.Writes.{Written}
 use Rattle.lb_alter.specs.Fits.{FitsTable, RowsFit}
 use Rattle.lb_fits.specs.Laws.{DeletedFits, DeletesFit}
-use Rattle.lb_fits.proofs.Steps.{Got, got, evaluated, same_ok, left_true, right_true, both_true, not_false}
+use Rattle.lb_fits.proofs.Steps.{got, evaluated, same_ok, left_true, right_true, both_true, not_false}
 use Rattle.lb_fits.proofs.Putting.{rows_there, answer_fits}
 
 abbrev Rows : Type 0

@@ -1,6 +1,6 @@
 -- The two tests of keys agree for rows that fit.
 use Rattle.std.proofs.Common.{ℕ, zero, suc, ◌≡◌, refl, sym, subst, ap, ◌∙◌, Bool, true, false, not, ◌&&◌, ◌||◌, List, [], ◌∷◌, map, slice_get, Option, Some, None}
-use Rattle.std.specs.Prelude.{slice_index_or, option_map}
+use Rattle.std.specs.Prelude.{option_map}
 use Rattle.std.specs.List.{AllByRecursion, AllZip, list_any}
 use Rattle.std.specs.Str.{bytes_eq}
 use Rattle.std.proofs.lemmas.Cmp.{int_eq_equiv}
@@ -11,8 +11,8 @@ use Rattle.lb_base.specs.Compare.{equal_of, truth_of}
 use Rattle.lb_base.specs.Truths.{is_true}
 use Rattle.lb_cat.specs.declared.catalog.ColumnRec.{ColumnRec}
 use Rattle.lb_cat.specs.Catalog.{Cat, Table}
-use Rattle.lb_rows.specs.KeyValues.{is_null, is_true as is_true_of, is_repeated, are_keys, value_at, keys_differ}
-use Rattle.lb_answer.specs.Keys.{is_one_key, is_doubled, keys_of, has_double}
+use Rattle.lb_rows.specs.KeyValues.{is_null, is_true as is_true_of, are_keys, value_at, keys_differ}
+use Rattle.lb_answer.specs.Keys.{is_one_key, is_doubled, has_double}
 use Rattle.lb_alter.specs.Columns.{HasKeyColumn, not_null_in}
 use Rattle.lb_alter.specs.Fits.{FitsColumn, FitsTable}
 use Rattle.lb_alter.proofs.Untouched.{turned}

@@ -1,5 +1,5 @@
 -- The row that a candidate makes fits its table.
-use Rattle.std.proofs.Common.{ℕ, zero, suc, ◌+◌, ◌≡◌, ◌≤◌, refl, sym, subst, ap, ◌∙◌, Bool, true, false, cond, ◌&&◌, ◌||◌, List, [], ◌∷◌, length, fold, slice_set, Option, Some, None, Ok, Err, arith}
+use Rattle.std.proofs.Common.{ℕ, suc, ◌+◌, ◌≡◌, ◌≤◌, refl, sym, subst, ap, ◌∙◌, Bool, true, false, cond, ◌&&◌, ◌||◌, List, [], ◌∷◌, length, fold, slice_set, Option, Some, None, Ok, Err, arith}
 use Rattle.std.specs.Prelude.{count_by, slice_index_or, nat_lt, if◌then◌else◌}
 use Rattle.std.specs.List.{AllZip, AllByRecursion, position_from}
 use Rattle.std.specs.Option.{option_and_then}
@@ -13,7 +13,7 @@ use Rattle.lb_cat.specs.Catalog.{Cat, Table, Policy, policy_named}
 use Rattle.lb_rows.specs.KeyValues.{is_null}
 use Rattle.lb_mean.specs.Refused.{policy_of_table}
 use Rattle.lb_answer.specs.Basis.{Basis}
-use Rattle.lb_answer.specs.Checks.{made, begun, written, needs_value, value_fits, values_fit, row_fits, old_writable, labelled, labelled_at, label_place, label_at, stored_label, masks_show_own, is_allowed, new_row}
+use Rattle.lb_answer.specs.Checks.{made, begun, written, value_fits, values_fit, row_fits, old_writable, labelled, labelled_at, label_place, label_at, stored_label, masks_show_own, is_allowed}
 use Rattle.lb_answer.specs.OrRefused.{OrRefused, Passed, ◌>>=◌, or_refused}
 use Rattle.lb_alter.specs.ChangeTable.{is_label_type, is_label_column}
 use Rattle.lb_alter.specs.Fits.{IsLabelOf, HasType, FitsColumn, FitsTable}
@@ -24,7 +24,7 @@ use Rattle.lb_kinds.specs.Settings.{kind_of}
 use Rattle.lb_fits.specs.Given.{IsItsLabel, IsNullOrItsLabel, OwnFits, GivesPlaces, ArePlaced, KeepsColumns, OldFits}
 use Rattle.lb_fits.specs.Laws.{NewFits}
 use Rattle.lb_fits.proofs.Columns.{Loose, begun_fits, written_fits}
-use Rattle.lb_fits.proofs.Steps.{Got, got, evaluated, same_ok}
+use Rattle.lb_fits.proofs.Steps.{got, evaluated, same_ok}
 use Rattle.lb_fits.proofs.Stored.{stored_fits}
 
 and_false : (a : Bool) → (a && false) ≡ false

@@ -1,5 +1,5 @@
 -- The rows of one table are put in the place of those that it had.
-use Rattle.std.proofs.Common.{ℕ, ◌≡◌, refl, sym, subst, ap, ◌∙◌, List, Option, Some, None, Ok, Err}
+use Rattle.std.proofs.Common.{ℕ, ◌≡◌, refl, sym, subst, ap, List, Option, Some, None, Ok, Err}
 use Rattle.std.specs.Prelude.{find}
 use Rattle.lb_cat.specs.declared.refusal.Refusal.{Refusal}
 use Rattle.lb_cat.specs.declared.reply.Verb.{Verb}
@@ -10,7 +10,7 @@ use Rattle.lb_answer.specs.OrRefused.{OrRefused}
 use Rattle.lb_answer.specs.Writes.{Written}
 use Rattle.lb_alter.specs.Fits.{FitsRecord, RowsFit}
 use Rattle.lb_alter.specs.Laws.{AllTablesFit}
-use Rattle.lb_alter.proofs.Fitting.{EachFits, each_from, each_to}
+use Rattle.lb_alter.proofs.Fitting.{each_from, each_to}
 use Rattle.lb_alter.proofs.SoundTables.{put_case}
 use Rattle.lb_fits.specs.Laws.{LeavesFit}
 

@@ -1,5 +1,5 @@
 -- Each write keeps that all tables fit.
-use Rattle.std.proofs.Common.{ℕ, ℤ, ◌≡◌, refl, sym, subst, ap, ◌∙◌, Bool, true, false, ◌⊎◌, inl, inr, List, [], ◌∷◌, map, Option, Some, None, Result, Ok, Err, unwrap_or}
+use Rattle.std.proofs.Common.{ℕ, ℤ, ◌≡◌, refl, sym, subst, ap, Bool, true, false, ◌⊎◌, inl, inr, List, [], ◌∷◌, map, Option, Some, None, Ok, Err, unwrap_or}
 use Rattle.std.specs.List.{AllByRecursion, AllZip, cons_option}
 use Rattle.lb_base.specs.declared.key.Ty.{Ty}
 use Rattle.lb_base.specs.declared.value.Value.{Value}
@@ -13,18 +13,16 @@ use Rattle.lb_stmt.specs.declared.write.Insert.{Insert}
 use Rattle.lb_stmt.specs.declared.write.InsertSource.{InsertSource}
 use Rattle.lb_stmt.specs.declared.write.InsertSource.TheVariants as sources
 use Rattle.lb_stmt.specs.declared.write.Stmt.TheVariants as stmts
-use Rattle.lb_stmt.specs.declared.write.Update.{Update}
 use Rattle.lb_cat.specs.declared.catalog.ColumnRec.{ColumnRec}
 use Rattle.lb_cat.specs.declared.cred.Cred.{Cred}
 use Rattle.lb_cat.specs.declared.reply.Verb.TheVariants as verbs
 use Rattle.lb_cat.specs.Catalog.{Cat, Table, Policy, table_named, policy_named}
-use Rattle.lb_names.specs.declared.refused.Refused.TheVariants.{Types}
 use Rattle.lb_names.specs.Kinds.{Kind}
 use Rattle.lb_names.specs.Sights.{Name, or_name}
-use Rattle.lb_names.specs.Scopes.{Field, Catalogue, listed, columns_of, field_named}
+use Rattle.lb_names.specs.Scopes.{Field, Catalogue, listed, field_named}
 use Rattle.lb_names.specs.Typed.{Typed, only_if, ◌>>=◌}
 use Rattle.lb_names.specs.Places.{outermost}
-use Rattle.lb_names.specs.Statements.{broken, given, kind_in, kind_wanted, kinds_wanted, is_taken_by, set_place, over_place, row_typed, rows_typed, assignments_typed, where_typed, source_types_refused, kinds_given, types_refused}
+use Rattle.lb_names.specs.Statements.{broken, given, kind_in, kind_wanted, is_taken_by, set_place, over_place, row_typed, rows_typed, assignments_typed, where_typed, source_types_refused, kinds_given}
 use Rattle.lb_names.specs.Typing.{means as typed, answers as typed_query}
 use Rattle.lb_names.specs.OrderTyping.{select_typed, outermost_role, keys_typed, order_place}
 use Rattle.lb_rows.specs.Tables.{Tables, rows_of}
@@ -43,19 +41,18 @@ use Rattle.lb_answer.specs.Basis.{Basis}
 use Rattle.lb_answer.specs.Candidates.{Marked}
 use Rattle.lb_answer.specs.Laws.{AreRows}
 use Rattle.lb_answer.specs.Writes.{Written}
-use Rattle.lb_alter.specs.Fits.{FitsTable, FitsColumn, RowsFit}
+use Rattle.lb_alter.specs.Fits.{RowsFit}
 use Rattle.lb_kinds.specs.Agreement.{RowFits, CellsFit, AgreesOn}
 use Rattle.lb_kinds.specs.Begins.{TargetHolds}
-use Rattle.lb_kinds.specs.Days.{days_in, days_in_query, AreDays}
-use Rattle.lb_kinds.specs.Given.{ValuesFit, IsGiven, AssignmentsFit}
+use Rattle.lb_kinds.specs.Days.{days_in, AreDays}
+use Rattle.lb_kinds.specs.Given.{ValuesFit, AssignmentsFit}
 use Rattle.lb_kinds.specs.HasKind.{Policies, HasKind, GivesKind, GivesKinds, HasKinds, IfResult}
 use Rattle.lb_kinds.specs.Inserted.{InsertedRowsFit}
 use Rattle.lb_kinds.specs.Selected.{SelectsGiveTheirKinds}
 use Rattle.lb_kinds.specs.Settings.{kind_of, columns_in, SameColumn, Knows, GuardedAgrees}
 use Rattle.lb_kinds.specs.Standing.{PieceFits, HoldsFor}
-use Rattle.lb_fits.specs.Given.{FitsKind, ArePlaced, GivesPlaces}
-use Rattle.lb_fits.specs.Laws.{LeavesFit, UpdateGives, SourcesGive}
-use Rattle.lb_fits.specs.Statements.{Begins, SourceHasDays, WritesDays, UpdatesFit, InsertsFit, WritesFit}
+use Rattle.lb_fits.specs.Given.{ArePlaced, GivesPlaces}
+use Rattle.lb_fits.specs.Statements.{Begins, SourceHasDays, UpdatesFit, InsertsFit, WritesFit}
 use Rattle.lb_fits.proofs.Columns.{Loose, loosely}
 use Rattle.lb_fits.proofs.Deleting.{deletes_fit}
 use Rattle.lb_fits.proofs.Putting.{rows_there, answer_fits}
@@ -167,7 +164,6 @@ module _ (N : Catalogue) (S : Setting) (C : Cat) (t : Table) (tys : List Ty) (pl
 
 module _ (are_rows : (b : Basis (List Value)) (rows : List (List Value)) (marks : List Marked) → AreRows b rows marks)
     (values_fit : ValuesFit) (assignments_fit : AssignmentsFit) (inserted_rows_fit : InsertedRowsFit) (selects_give : SelectsGiveTheirKinds) (guarded_agrees : GuardedAgrees) (target_holds : TargetHolds) where
-
   known : (N : Catalogue) (C : Cat) (T : Tables) → Knows N C T → (n : List ℕ) (t : Table) → table_named C n ≡ Some t → AllZip SameColumn (listed (N.columns n)) t.columns
   known N C T k n t e = subst (λ (o : Option Table). AllZip SameColumn (listed (N.columns n)) (columns_in o)) e (k.columns n)
 
@@ -184,16 +180,16 @@ module _ (are_rows : (b : Basis (List Value)) (rows : List (List Value)) (marks 
       updated_fits are_rows C t (update_basis C c (unguarded C c T day) S t P u) (places_of t (map (λ a. a.column) u.assignments)) (rows_of u.target.table T) w
       (keeps_columns rules C begins.sound u.target.table t e) (own_fits C c begins.credentials t)
       (λ row f.
-          let fit : RowFits (policy_named C) fields row = of_fields C fields t.columns row same (loosely C t.columns row f) in
-          let p : PieceFits N S u.target (piece (S.sources u.target.table) (correlation_of u.target) row) = record {
-            correlation = same_call u.target.correlation u.target.table;
-            columns = refl;
-            cells = cells_fit (policy_named C) fields row fit;
-            shown = (agrees.tables u.target.table).shown row fit;
-          } in
-          let env : Env = row_frame (piece (S.sources u.target.table) (correlation_of u.target) row ∷ []) ∷ [] in
-          let holds : HoldsFor N S (set_place u.target) None env = target_holds N S (set_place u.target) u.target refl (piece (S.sources u.target.table) (correlation_of u.target) row) p in
-          set_placed N S C t env fields same u.target u.assignments 0 b.it b.is (assignments_fit N S agrees u.target env holds fields u.assignments days 0 b.it b.is))
+      let fit : RowFits (policy_named C) fields row = of_fields C fields t.columns row same (loosely C t.columns row f) in
+      let p : PieceFits N S u.target (piece (S.sources u.target.table) (correlation_of u.target) row) = record {
+        correlation = same_call u.target.correlation u.target.table;
+        columns = refl;
+        cells = cells_fit (policy_named C) fields row fit;
+        shown = (agrees.tables u.target.table).shown row fit;
+      } in
+      let env : Env = row_frame (piece (S.sources u.target.table) (correlation_of u.target) row ∷ []) ∷ [] in
+      let holds : HoldsFor N S (set_place u.target) None env = target_holds N S (set_place u.target) u.target refl (piece (S.sources u.target.table) (correlation_of u.target) row) p in
+      set_placed N S C t env fields same u.target u.assignments 0 b.it b.is (assignments_fit N S agrees u.target env holds fields u.assignments days 0 b.it b.is))
       (rows_there C T begins.tables u.target.table t e) h)
 
   -- the kinds that the columns of an INSERT take

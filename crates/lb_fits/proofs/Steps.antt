@@ -1,5 +1,5 @@
 -- Steps of writes that gave a result, taken apart.
-use Rattle.std.proofs.Common.{◌≡◌, refl, ap, Bool, true, false, ◌&&◌, not, List, [], ◌∷◌, Ok, Err}
+use Rattle.std.proofs.Common.{◌≡◌, refl, ap, Bool, true, false, ◌&&◌, not, Ok, Err}
 use Rattle.lb_base.specs.Evaluated.{Evaluated}
 use Rattle.lb_answer.specs.OrRefused.{OrRefused, ◌>>=◌, or_refused}
 

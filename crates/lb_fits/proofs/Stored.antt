@@ -1,5 +1,5 @@
 -- The label that is stored is one of the table's policy.
-use Rattle.std.proofs.Common.{◌≡◌, refl, subst, Bool, true, false, Option, Some, None, Ok, Err}
+use Rattle.std.proofs.Common.{◌≡◌, subst, Bool, true, false, Option, Some, None, Ok, Err}
 use Rattle.std.specs.Prelude.{if◌then◌else◌}
 use Rattle.lb_base.specs.declared.value.Value.{Value}
 use Rattle.lb_base.specs.declared.value.Value.TheVariants as values
@@ -7,8 +7,8 @@ use Rattle.lb_label.specs.declared.access.Fail.{Fail}
 use Rattle.lb_cat.specs.declared.refusal.Refusal.{Refusal}
 use Rattle.lb_cat.specs.Catalog.{Table, Policy}
 use Rattle.lb_answer.specs.Basis.{Basis}
-use Rattle.lb_answer.specs.Checks.{own_label, given_label, restricts, stored_label}
-use Rattle.lb_fits.specs.Given.{IsItsLabel, IsNullOrItsLabel, OwnFits}
+use Rattle.lb_answer.specs.Checks.{own_label, given_label, restricts}
+use Rattle.lb_fits.specs.Given.{IsItsLabel, OwnFits}
 use Rattle.lb_fits.specs.Laws.{StoredFits}
 use Rattle.lb_fits.proofs.Steps.{same_ok}
 

@@ -1,6 +1,5 @@
 -- The columns that a write names, as names and types know them and as the table has them.
 use Rattle.std.proofs.Common.{ℕ, suc, ◌+◌, ◌≡◌, refl, sym, subst, ap, ◌∙◌, Bool, true, false, cond, ◌⊎◌, inl, inr, List, [], ◌∷◌, ◌++◌, map, slice_get, Option, Some, None, Ok, Err, arith}
-use Rattle.std.specs.Prelude.{find, filter_map}
 use Rattle.std.specs.List.{AllZip, position_from, cons_option}
 use Rattle.std.specs.Str.{bytes_eq}
 use Rattle.lb_base.specs.declared.key.Ty.{Ty}
@@ -10,7 +9,7 @@ use Rattle.lb_cat.specs.declared.catalog.ColumnRec.{ColumnRec}
 use Rattle.lb_cat.specs.Catalog.{Cat, Table, policy_named, is_column}
 use Rattle.lb_names.specs.Kinds.{Kind}
 use Rattle.lb_names.specs.Scopes.{Field, field_named}
-use Rattle.lb_names.specs.Statements.{given, kind_in, kind_wanted, kinds_wanted}
+use Rattle.lb_names.specs.Statements.{given, kind_in, kinds_wanted}
 use Rattle.lb_answer.specs.Answer.{places_of, places_given}
 use Rattle.lb_kinds.specs.HasKind.{HasKind, GivesKind, IfResult}
 use Rattle.lb_kinds.specs.Settings.{kind_of, SameColumn}
@@ -45,20 +44,30 @@ no_more a p e = omega (arith, e)
 look_on : (b : Bool) (f : Field) (c : ColumnRec) (fields : List Field) (columns : List ColumnRec) (n : List ℕ) (at : ℕ) → bytes_eq f.name n ≡ b → bytes_eq c.name n ≡ b → f.kind ≡ kind_of c.ty
     → Missing fields columns n (at + 1) ⊎ Column fields columns n (at + 1) → Missing (f ∷ fields) (c ∷ columns) n at ⊎ Column (f ∷ fields) (c ∷ columns) n at
 look_on true f c fields columns n at e g k rest = inr (record {
-  field = f; place = at; ahead = 0; column = c;
+  field = f;
+  place = at;
+  ahead = 0;
+  column = c;
   named = ap (λ (b : Bool). cond b (Some f) (field_named n fields)) e;
   placed = ap (λ (b : Bool). cond b (Some at) (position_from (is_column n) (at + 1) columns)) g;
-  is = add_zero at; there = refl; kind = k;
+  is = add_zero at;
+  there = refl;
+  kind = k;
 })
 look_on false f c fields columns n at e g k (inl m) = inl (record {
   named = ap (λ (b : Bool). cond b (Some f) (field_named n fields)) e ∙ m.named;
   placed = ap (λ (b : Bool). cond b (Some at) (position_from (is_column n) (at + 1) columns)) g ∙ m.placed;
 })
 look_on false f c fields columns n at e g k (inr m) = inr (record {
-  field = m.field; place = m.place; ahead = suc m.ahead; column = m.column;
+  field = m.field;
+  place = m.place;
+  ahead = suc m.ahead;
+  column = m.column;
   named = ap (λ (b : Bool). cond b (Some f) (field_named n fields)) e ∙ m.named;
   placed = ap (λ (b : Bool). cond b (Some at) (position_from (is_column n) (at + 1) columns)) g ∙ m.placed;
-  is = step_on at m.place m.ahead m.is; there = m.there; kind = m.kind;
+  is = step_on at m.place m.ahead m.is;
+  there = m.there;
+  kind = m.kind;
 })
 
 pub look : (fields : List Field) (columns : List ColumnRec) → AllZip SameColumn fields columns → (n : List ℕ) (at : ℕ) → Missing fields columns n at ⊎ Column fields columns n at

@@ -1,7 +1,7 @@
 -- The rows that an UPDATE and an INSERT leave fit.
-use Rattle.std.proofs.Common.{ℕ, suc, ◌≡◌, ◌≤◌, ◌*◌, refl, sym, subst, ap, ◌∙◌, Bool, true, false, not, cond, List, [], ◌∷◌, ◌++◌, map, length, Option, Some, None, Ok, Err}
+use Rattle.std.proofs.Common.{ℕ, suc, ◌≡◌, ◌≤◌, ◌*◌, refl, sym, subst, ap, ◌∙◌, Bool, true, false, not, List, [], ◌∷◌, ◌++◌, map, length, Option, Some, None, Ok, Err}
 use Rattle.std.specs.Prelude.{nat_lt, if◌then◌else◌}
-use Rattle.std.specs.List.{AllByRecursion, AllZip}
+use Rattle.std.specs.List.{AllByRecursion}
 use Rattle.lb_base.specs.declared.value.Value.{Value}
 use Rattle.lb_base.specs.Evaluated.{Evaluated}
 use Rattle.lb_cat.specs.declared.refusal.Refusal.{Refusal}
@@ -14,7 +14,7 @@ use Rattle.lb_answer.specs.Checks.{new_row}
 use Rattle.lb_answer.specs.Keys.{has_double}
 use Rattle.lb_answer.specs.Laws.{AreRows}
 use Rattle.lb_answer.specs.OrRefused.{OrRefused, Passed, ◌>>=◌, or_refused, all_made}
-use Rattle.lb_answer.specs.Writes.{Written, renewed, is_unique, is_within_cells, cell_limit, updated, inserted}
+use Rattle.lb_answer.specs.Writes.{Written, renewed, is_unique, is_within_cells, cell_limit, updated}
 use Rattle.lb_alter.specs.Fits.{FitsTable, RowsFit}
 use Rattle.lb_alter.proofs.SoundKinds.{not_more}
 use Rattle.lb_alter.proofs.SoundUsers.{all_append}
@@ -23,7 +23,7 @@ use Rattle.lb_fits.specs.Given.{OwnFits, GivesPlaces, KeepsColumns}
 use Rattle.lb_fits.specs.Laws.{UpdateGives, UpdatedFits, InsertedFits}
 use Rattle.lb_fits.proofs.KeyTests.{tests_of_keys_agree}
 use Rattle.lb_fits.proofs.NewRows.{new_fits}
-use Rattle.lb_fits.proofs.Steps.{Got, got, evaluated, same_ok}
+use Rattle.lb_fits.proofs.Steps.{got, evaluated, same_ok}
 
 -- all results have what each of them has, and there are as many
 module _ {A B : Type 0} (f : A → OrRefused B) (P : A → Type 0) (Q : B → Type 0) (each : (x : A) (y : B) → P x → f x ≡ Ok y → Q y) where
