@@ -303,8 +303,8 @@ module _ (K : Checks) (steady : IsSteady K) (C : Cat) (T : Tables) (s : IsSound 
   labelled_there None l h = absurd cc
   labelled_there (Some p) l h = refl
 
-  pub create_policy_sound : (user : List ℕ) (d : PolicyDef) → IsFolded d.name → LeavesSound K (create_policy C T user d)
-  create_policy_sound user d folded =
+  pub create_policy_sound : (user : List ℕ) (d : PolicyDef) → IsFolded d.name → 1 ≤ length d.components → LeavesSound K (create_policy C T user d)
+  create_policy_sound user d folded some =
       test_sound K (secadm C user) _ (λ _. test_sound K (when (is_some (policy_named C d.name)) (refusals.Exists d.name)) _ (λ new. test_sound K (when (nat_lt 16 (length d.components)) (refusals.Limit limits.Components 16)) _ (λ few. test_sound K (components_refusal C [] d.components) _
       (λ e. done_sound K _ T (keys.Policy d.name ∷ []) (put_is_sound (not_more 16 _ (is_new _ _ few)) (is_new _ _ new) (all_components [] d.components e))))))
     where
@@ -341,7 +341,7 @@ module _ (K : Checks) (steady : IsSteady K) (C : Cat) (T : Tables) (s : IsSound 
                 (reads_there K C p steady D (all_put (λ (y : Policy). IsFolded y.name) (is_policy d.name) x C.policies (folded_of K C p) folded) (λ n _. refl) (same new) (λ n _. refl)) (λ n z. z) there (labels_here new) (λ n _ z. z);
             policies = all_put (PolicyIsSound D) (is_policy d.name) x C.policies
                 (all_follow (PolicyIsSound C) (PolicyIsSound D) (λ y i. record { folded = i.folded; few = i.few; components = i.components; labels = i.labels; shape = record { shape = i.shape.shape; labels = i.shape.labels } }) C.policies p.policies)
-                (record { folded = folded; few = few; components = made.0; labels = refl; shape = record { shape = made.1; labels = tt } });
+                (record { folded = folded; few = (some, few); components = made.0; labels = refl; shape = record { shape = made.1; labels = tt } });
             users = all_follow (UserIsSound C) (UserIsSound D)
                 (λ y i. user_moves C D (λ n z. z) y i i.records.roles (all_follow (λ (h : Holding). HasPolicy C h.policy) (λ (h : Holding). HasPolicy D h.policy) (λ h z. there h.policy z) y.held i.records.held)
                 (all_follow (HoldsLabels C) (HoldsLabels D) (λ h j. record { read = given_label new h.policy h.read j.read; write = given_label new h.policy h.write j.write }) y.held i.held)) C.users p.users;

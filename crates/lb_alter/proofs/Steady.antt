@@ -8,8 +8,8 @@ use Rattle.lb_base.specs.declared.key.Key.TheVariants as keys
 use Rattle.lb_cat.specs.Keys.{same_key, once}
 use Rattle.lb_cat.specs.Catalog.{Cat, table_named, policy_named}
 use Rattle.lb_names.specs.Mentions.{Mentions, in_stmt, tables_in, policies_in}
-use Rattle.lb_alter.specs.Deps.{in_tables, in_table, tables_for, policy_of_table, is_key_name, policies_for, components_of, components_for, deps_of}
-use Rattle.lb_alter.specs.Frame.{SameRecord, SameOn, DepsStay}
+use Rattle.lb_alter.specs.Deps.{in_tables, in_table, tables_for, policy_of_table, is_key_name, policies_for, components_of, components_for, deps_of, deps}
+use Rattle.lb_alter.specs.Frame.{SameRecord, SameOn, DepsStay, WriteDepsStay}
 
 -- ---- keys
 
@@ -75,7 +75,7 @@ module _ (C D : Cat) (ms : Mentions) (same : SameOn (deps_of C ms) C D) where
   after_same : in_tables D (tables_in ms) ≡ in_tables C (tables_in ms)
   after_same = same_flat (table_named D) (table_named C) in_table (tables_in ms) (all_front (λ (n : List ℕ). table_named D n ≡ table_named C n) (tables_in ms) _ tables_same)
 
-  tables_for_same : tables_for D ms ≡ tables_for C ms
+  pub tables_for_same : tables_for D ms ≡ tables_for C ms
   tables_for_same = ap (λ (b : Mentions). tables_in ms ++ tables_in b) after_same
 
   policies_for_same : policies_for D ms ≡ policies_for C ms
@@ -101,3 +101,8 @@ module _ (C D : Cat) (ms : Mentions) (same : SameOn (deps_of C ms) C D) where
 
 pub deps_stay : DepsStay
 deps_stay C D s same = deps_same C D (in_stmt s) same
+
+pub write_deps_stay : WriteDepsStay
+write_deps_stay C D s user same =
+    ap (λ (ks : List Key). once (ks ++ (map (λ n. keys.Rows n) (tables_for D (in_stmt s)) ++ keys.User user ∷ []))) (deps_stay C D s same)
+    ∙ ap (λ (ts : List (List ℕ)). once (deps C s ++ (map (λ n. keys.Rows n) ts ++ keys.User user ∷ []))) (tables_for_same C D (in_stmt s) same)

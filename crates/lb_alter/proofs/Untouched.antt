@@ -1,4 +1,4 @@
--- A key that a change doesn't touch has the same record and rows.
+-- A key that a change doesn't touch has the same record and rows; and no change takes a user's record away.
 use Rattle.std.proofs.Common.{◌≡◌, refl, sym, ap, subst, ◌∙◌, ℕ, ◌+◌, ◌*◌, Bool, true, false, cond, not, ◌||◌, List, [], ◌∷◌, ◌++◌, map, length, Option, Some, None, Ok, Err, is_some, is_none, nat_le, nat_lt}
 use Rattle.std.specs.Prelude.{find, filter, position, unwrap_or, option_map, if◌then◌else◌}
 use Rattle.std.specs.List.{list_any}
@@ -32,7 +32,7 @@ use Rattle.lb_cat.specs.declared.refusal.LimitOf.TheVariants as limits
 use Rattle.lb_rows.specs.Tables.{Version, Tables, is_version, rows_of, put_version}
 use Rattle.lb_rows.specs.Lists.{put, without}
 use Rattle.lb_cat.specs.Keys.{has_key}
-use Rattle.lb_cat.specs.Catalog.{Table, Policy, Component, User, Cat, is_table, is_policy, is_user, table_named, policy_named, component_named, has_role, is_column, column_named, is_permission, is_mask, is_label, label_named, put_table, put_component, put_user, put_role, drop_table, drop_policy, drop_component, drop_role, no_user}
+use Rattle.lb_cat.specs.Catalog.{Table, Policy, Component, User, Cat, is_table, is_policy, is_user, table_named, policy_named, component_named, user_named, has_role, is_column, column_named, is_permission, is_mask, is_label, label_named, put_table, put_component, put_user, put_role, drop_table, drop_policy, drop_component, drop_role, no_user}
 use Rattle.lb_cat.specs.Privileges.{is_grant_on, has_grant_on, without_grant}
 use Rattle.lb_cat.specs.Holdings.{is_holding_of, holding_of, with_holding, has_holding_of, without_holding, holds_label, with_exemptions, without_exemptions}
 use Rattle.lb_names.specs.Mentions.{in_cond, in_expr}
@@ -43,7 +43,7 @@ use Rattle.lb_alter.specs.ChangeGrant.{user_or_new, grants, taken_from, revokes,
 use Rattle.lb_alter.specs.ChangeLabel.{parts_refusal, label_parts, create_label, user_name, holds, secures_with, drop_label}
 use Rattle.lb_alter.specs.ChangePolicy.{kind_of_definition, elements_of, with_elements, create_component, policy_name, has_component, drop_component_of, components_refusal, new_policy, create_policy, has_policy, table_name, first_label, drop_policy_of}
 use Rattle.lb_alter.specs.ChangeTable.{width_refusal, is_label_type, columns_in, keys_in, columns_refusal, key_refusal, policy_refusal, flaws_refusal, secured_refusal, policy_of, new_table, create_table, user_key, drop_table_of}
-use Rattle.lb_alter.specs.Frame.{SameRecord, SameRows, UntouchedStays}
+use Rattle.lb_alter.specs.Frame.{SameRecord, SameRows, UntouchedStays, UsersStay}
 use Rattle.lb_alter.specs.Refusing.{in_use, exists_already, Changed, OrRefused, ◌>>=◌, ◌>>◌, when, each_passes, found, the_table, the_policy, the_label, owner, secadm, done, alters, alters_policy, settled}
 use Rattle.lb_alter.specs.Stored.{Checks, stored_name, user_of_table, calls_policy, calls_label}
 
@@ -63,6 +63,11 @@ turned m n h =
       | true ↦ λ same. let yes_it_is : bytes_eq m n ≡ true = (bytes_eq-Decides m n).1 (sym ((bytes_eq-Decides n m).0 same)) in absurd cc
       | false ↦ λ _. refl
     ] refl
+
+-- something is found at the head or after it
+found_too : {R : Type 0} (b : Bool) (x y : R) (rest later : Option R) → (is_some rest ≡ true → is_some later ≡ true) → is_some (cond b (Some x) rest) ≡ true → is_some (cond b (Some y) later) ≡ true
+found_too true x y rest later f h = refl
+found_too false x y rest later f h = f h
 
 module _ {R : Type 0} (name : R → List ℕ) where
   pub put_other : (r : R) (n : List ℕ) (xs : List R) → bytes_eq (name r) n ≡ false
@@ -97,6 +102,17 @@ module _ {R : Type 0} (name : R → List ℕ) where
         | false ↦ λ _ e. named_there n xs r e
       ] refl h
 
+  -- a record that is put takes no name away
+  put_there : (r : R) (n : List ℕ) (xs : List R) → is_some (find (λ x. bytes_eq (name x) n) xs) ≡ true
+      → is_some (find (λ x. bytes_eq (name x) n) (put (λ x. bytes_eq (name x) (name r)) r xs)) ≡ true
+  put_there r n [] h = absurd cc
+  put_there r n (x ∷ xs) h =
+      elim (bytes_eq (name x) (name r)) as (λ b. bytes_eq (name x) (name r) ≡ b
+      → is_some (find (λ y. bytes_eq (name y) n) (cond b (r ∷ xs) (x ∷ put (λ y. bytes_eq (name y) (name r)) r xs))) ≡ true) [
+        | true ↦ λ same. found_too (bytes_eq (name r) n) x r _ _ (λ i. i) (subst (λ (m : List ℕ). is_some (cond (bytes_eq m n) (Some x) (find (λ y. bytes_eq (name y) n) xs)) ≡ true) ((bytes_eq-Decides (name x) (name r)).0 same) h)
+        | false ↦ λ _. found_too (bytes_eq (name x) n) x x _ _ (put_there r n xs) h
+      ] refl
+
 -- a list keeps all where nothing is meant
 kept_all : {R : Type 0} (is : R → Bool) (xs : List R) → is_some (find is xs) ≡ false → without is xs ≡ xs
 kept_all is [] h = refl
@@ -121,6 +137,12 @@ mapped_stays f has named same n (u ∷ us) h =
       | false ↦ λ none e. rw (same u none) (ap (λ (rest : Option User). cond (bytes_eq u.name n) (Some u) rest) (mapped_stays f has named same n us e))
     ] refl h
 
+-- where each keeps its name, all are there that were
+mapped_there : (f : User → User) → ((u : User) → (f u).name ≡ u.name) → (n : List ℕ) (us : List User) → is_some (find (is_user n) us) ≡ true → is_some (find (is_user n) (map f us)) ≡ true
+mapped_there f named n [] h = absurd cc
+mapped_there f named n (u ∷ us) h =
+    subst (λ (m : List ℕ). is_some (cond (bytes_eq m n) (Some (f u)) (find (is_user n) (map f us))) ≡ true) (sym (named u)) (found_too (bytes_eq u.name n) u (f u) _ _ (mapped_there f named n us) h)
+
 user_or_new_name : (C : Cat) (n : List ℕ) → (user_or_new C n).name ≡ n
 user_or_new_name C n =
     elim (find (is_user n) C.users) as (λ o. find (is_user n) C.users ≡ o → (unwrap_or o (no_user n)).name ≡ n) [
@@ -130,27 +152,35 @@ user_or_new_name C n =
 
 -- ---- changes
 
--- what an accepted statement leaves, it leaves as it was under all keys that it doesn't touch
+-- what an accepted statement leaves, it leaves as it was under all keys that it doesn't touch; and all users are still there
 pub record Stays (C : Cat) (T : Tables) (m : OrRefused Changed) : Type 0 where
+  pub users : (d : Changed) → m ≡ Ok d → (n : List ℕ) → is_some (user_named C n) ≡ true → is_some (user_named d.cat n) ≡ true
   pub stays : (d : Changed) → m ≡ Ok d → (k : Key) → has_key k d.touched ≡ false → SameRecord C d.cat k × SameRows T d.tables k
 
 bind_stays : {A : Type 0} (C : Cat) (T : Tables) (m : OrRefused A) (f : A → OrRefused Changed) → ((x : A) → Stays C T (f x)) → Stays C T (m >>= f)
 bind_stays C T (Ok x) f h = h x
-bind_stays C T (Err r) f h = record { stays = λ d e. absurd cc }
+bind_stays C T (Err r) f h = record { users = λ d e. absurd cc; stays = λ d e. absurd cc }
 
 test_stays : (C : Cat) (T : Tables) (o : Option Refusal) (rest : OrRefused Changed) → Stays C T rest → Stays C T (o >> rest)
 test_stays C T None rest h = h
-test_stays C T (Some r) rest h = record { stays = λ d e. absurd cc }
+test_stays C T (Some r) rest h = record { users = λ d e. absurd cc; stays = λ d e. absurd cc }
 
-done_stays : (C D : Cat) (T U : Tables) (touched : List Key) → ((k : Key) → has_key k touched ≡ false → SameRecord C D k × SameRows T U k) → Stays C T (done D U touched)
-done_stays C D T U touched h = record { stays = λ d e k. subst (λ (x : OrRefused Changed). OfOutcome C T k x) e (h k) }
+done_stays : (C D : Cat) (T U : Tables) (touched : List Key) → ((n : List ℕ) → is_some (user_named C n) ≡ true → is_some (user_named D n) ≡ true) → ((k : Key) → has_key k touched ≡ false → SameRecord C D k × SameRows T U k) → Stays C T (done D U touched)
+done_stays C D T U touched there h = record {
+  users = λ d e n. subst (λ (x : OrRefused Changed). OfUsers C n x) e (there n);
+  stays = λ d e k. subst (λ (x : OrRefused Changed). OfOutcome C T k x) e (h k);
+}
   where
+    OfUsers : Cat → List ℕ → OrRefused Changed → Type 0
+    OfUsers C n (Ok d) = is_some (user_named C n) ≡ true → is_some (user_named d.cat n) ≡ true
+    OfUsers C n (Err r) = Unit {0}
+
     OfOutcome : Cat → Tables → Key → OrRefused Changed → Type 0
     OfOutcome C T k (Ok d) = has_key k d.touched ≡ false → SameRecord C d.cat k × SameRows T d.tables k
     OfOutcome C T k (Err r) = Unit {0}
 
 alters_stays : (C : Cat) (T : Tables) (t : Table) → Stays C T (alters C T t)
-alters_stays C T t = done_stays C (put_table t C) T T (keys.Table t.name ∷ []) at
+alters_stays C T t = done_stays C (put_table t C) T T (keys.Table t.name ∷ []) (λ n h. h) at
   where
     at : (k : Key) → has_key k (keys.Table t.name ∷ []) ≡ false → SameRecord C (put_table t C) k × SameRows T T k
     at (keys.Table n) h = (put_other (λ (x : Table). x.name) t n C.tables (turned n t.name (or_left _ _ h)), tt)
@@ -161,7 +191,7 @@ alters_stays C T t = done_stays C (put_table t C) T T (keys.Table t.name ∷ [])
 
 -- a table's record and its rows
 rows_stay : (C : Cat) (T : Tables) (t : Table) (v : Version) → v.name ≡ t.name → Stays C T (done (put_table t C) (put_version v T) (keys.Table t.name ∷ keys.Rows t.name ∷ []))
-rows_stay C T t v named = done_stays C (put_table t C) T (put_version v T) (keys.Table t.name ∷ keys.Rows t.name ∷ []) at
+rows_stay C T t v named = done_stays C (put_table t C) T (put_version v T) (keys.Table t.name ∷ keys.Rows t.name ∷ []) (λ n h. h) at
   where
     at : (k : Key) → has_key k (keys.Table t.name ∷ keys.Rows t.name ∷ []) ≡ false → SameRecord C (put_table t C) k × SameRows T (put_version v T) k
     at (keys.Table n) h = (put_other (λ (x : Table). x.name) t n C.tables (turned n t.name (or_left _ _ h)), tt)
@@ -171,7 +201,7 @@ rows_stay C T t v named = done_stays C (put_table t C) T (put_version v T) (keys
     at (keys.User n) h = (refl, tt)
 
 put_policy_stays : (C : Cat) (T : Tables) (p : Policy) → Stays C T (alters_policy C T p)
-put_policy_stays C T p = done_stays C _ T T (keys.Policy p.name ∷ []) at
+put_policy_stays C T p = done_stays C _ T T (keys.Policy p.name ∷ []) (λ n h. h) at
   where
     at : (k : Key) → has_key k (keys.Policy p.name ∷ []) ≡ false → SameRecord C (record C { policies = put (is_policy p.name) p C.policies }) k × SameRows T T k
     at (keys.Table n) h = (refl, tt)
@@ -181,7 +211,7 @@ put_policy_stays C T p = done_stays C _ T T (keys.Policy p.name ∷ []) at
     at (keys.User n) h = (refl, tt)
 
 put_component_stays : (C : Cat) (T : Tables) (c : Component) → Stays C T (done (put_component c C) T (keys.Component c.name ∷ []))
-put_component_stays C T c = done_stays C _ T T (keys.Component c.name ∷ []) at
+put_component_stays C T c = done_stays C _ T T (keys.Component c.name ∷ []) (λ n h. h) at
   where
     at : (k : Key) → has_key k (keys.Component c.name ∷ []) ≡ false → SameRecord C (put_component c C) k × SameRows T T k
     at (keys.Table n) h = (refl, tt)
@@ -191,7 +221,7 @@ put_component_stays C T c = done_stays C _ T T (keys.Component c.name ∷ []) at
     at (keys.User n) h = (refl, tt)
 
 drop_component_stays : (C : Cat) (T : Tables) (n : List ℕ) → Stays C T (done (drop_component n C) T (keys.Component n ∷ []))
-drop_component_stays C T m = done_stays C _ T T (keys.Component m ∷ []) at
+drop_component_stays C T m = done_stays C _ T T (keys.Component m ∷ []) (λ n h. h) at
   where
     at : (k : Key) → has_key k (keys.Component m ∷ []) ≡ false → SameRecord C (drop_component m C) k × SameRows T T k
     at (keys.Table n) h = (refl, tt)
@@ -202,7 +232,7 @@ drop_component_stays C T m = done_stays C _ T T (keys.Component m ∷ []) at
 
 -- the five lists but for the roles, which have no key
 roles_stay : (C D : Cat) (T : Tables) → D.tables ≡ C.tables → D.policies ≡ C.policies → D.components ≡ C.components → D.users ≡ C.users → Stays C T (done D T [])
-roles_stay C D T t p c u = done_stays C D T T [] at
+roles_stay C D T t p c u = done_stays C D T T [] (λ n h. ap (λ (us : List User). is_some (find (is_user n) us)) u ∙ h) at
   where
     at : (k : Key) → has_key k [] ≡ false → SameRecord C D k × SameRows T T k
     at (keys.Table n) h = (ap (find (is_table n)) t, tt)
@@ -212,7 +242,7 @@ roles_stay C D T t p c u = done_stays C D T T [] at
     at (keys.User n) h = (ap (find (is_user n)) u, tt)
 
 put_user_stays : (C : Cat) (T : Tables) (u : User) (m : List ℕ) → u.name ≡ m → Stays C T (done (put_user u C) T (keys.User m ∷ []))
-put_user_stays C T u m named = done_stays C (put_user u C) T T (keys.User m ∷ []) at
+put_user_stays C T u m named = done_stays C (put_user u C) T T (keys.User m ∷ []) (λ n h. put_there (λ (x : User). x.name) u n C.users h) at
   where
     at : (k : Key) → has_key k (keys.User m ∷ []) ≡ false → SameRecord C (put_user u C) k × SameRows T T k
     at (keys.Table n) h = (refl, tt)
@@ -222,7 +252,7 @@ put_user_stays C T u m named = done_stays C (put_user u C) T T (keys.User m ∷ 
     at (keys.User n) h = (put_other (λ (x : User). x.name) u n C.users (subst (λ (k : List ℕ). bytes_eq k n ≡ false) (sym named) (turned n m (or_left _ _ h))), tt)
 
 unchanged_stays : (C : Cat) (T : Tables) (touched : List Key) → Stays C T (done C T touched)
-unchanged_stays C T touched = done_stays C C T T touched at
+unchanged_stays C T touched = done_stays C C T T touched (λ n h. h) at
   where
     at : (k : Key) → has_key k touched ≡ false → SameRecord C C k × SameRows T T k
     at (keys.Table n) h = (refl, tt)
@@ -244,7 +274,7 @@ revokes_stay C T n f named =
 -- DROP TABLE, and DROP SECURITY POLICY
 drop_table_stays : (C : Cat) (T : Tables) (m : List ℕ)
     → Stays C T (done (record (drop_table m C) { users = map (without_grant m) C.users }) (without (is_version m) T) (keys.Table m ∷ keys.Rows m ∷ map user_key (filter (has_grant_on m) C.users)))
-drop_table_stays C T m = done_stays C _ T _ _ at
+drop_table_stays C T m = done_stays C _ T _ _ (λ n h. mapped_there (without_grant m) (λ u. refl) n C.users h) at
   where
     at : (k : Key) → has_key k (keys.Table m ∷ keys.Rows m ∷ map user_key (filter (has_grant_on m) C.users)) ≡ false
         → SameRecord C (record (drop_table m C) { users = map (without_grant m) C.users }) k × SameRows T (without (is_version m) T) k
@@ -256,7 +286,7 @@ drop_table_stays C T m = done_stays C _ T _ _ at
 
 drop_policy_stays : (C : Cat) (T : Tables) (m : List ℕ)
     → Stays C T (done (record (drop_policy m C) { users = map (without_holding m) C.users }) T (keys.Policy m ∷ map user_key (filter (has_holding_of m) C.users)))
-drop_policy_stays C T m = done_stays C _ T _ _ at
+drop_policy_stays C T m = done_stays C _ T _ _ (λ n h. mapped_there (without_holding m) (λ u. refl) n C.users h) at
   where
     at : (k : Key) → has_key k (keys.Policy m ∷ map user_key (filter (has_holding_of m) C.users)) ≡ false
         → SameRecord C (record (drop_policy m C) { users = map (without_holding m) C.users }) k × SameRows T T k
@@ -551,3 +581,10 @@ settled_stays C T (Err r) h (keys.User n) u = (refl, tt)
 
 pub untouched_stays : (K : Checks) → UntouchedStays K
 untouched_stays K C T user s = settled_stays C T (attempt K C T user s) (attempt_stays K C T user s)
+
+settled_users : (C : Cat) (T : Tables) (m : OrRefused Changed) → Stays C T m → (n : List ℕ) → is_some (user_named C n) ≡ true → is_some (user_named (settled C T m).cat n) ≡ true
+settled_users C T (Ok d) h n there = h.users d refl n there
+settled_users C T (Err r) h n there = there
+
+pub users_stay : (K : Checks) → UsersStay K
+users_stay K C T user s = settled_users C T (attempt K C T user s) (attempt_stays K C T user s)

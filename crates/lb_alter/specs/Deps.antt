@@ -1,4 +1,4 @@
--- What a statement depends on, and what it touches. Each list has each key once, at its first place.
+-- What a statement depends on. Each list has each key once, at its first place.
 use Rattle.std.specs.Prelude.{ℕ, Bool, ◌&&◌, List, [], ◌∷◌, ◌++◌, map, filter, filter_map, Option, None, Some}
 use Rattle.std.specs.List.{flat_map}
 use Rattle.std.specs.Str.{bytes_eq}
@@ -6,8 +6,6 @@ use Rattle.lb_base.specs.declared.key.Key.{Key}
 use Rattle.lb_base.specs.declared.key.Key.TheVariants as keys
 use Rattle.lb_base.specs.Names.{is_name, folded}
 use Rattle.lb_stmt.specs.declared.write.Stmt.{Stmt}
-use Rattle.lb_cat.specs.declared.reply.Reply.{Reply}
-use Rattle.lb_cat.specs.declared.reply.Reply.TheVariants as replies
 use Rattle.lb_cat.specs.Keys.{once}
 use Rattle.lb_cat.specs.Catalog.{Cat, Table, Policy, table_named, policy_named}
 use Rattle.lb_names.specs.Mentions.{Mentions, in_stmt, tables_in, policies_in}
@@ -64,22 +62,3 @@ deps C s = deps_of C (in_stmt s)
 -- what the commit of a write by the user depends on
 abbrev pub write_deps : Cat → Stmt → List ℕ → List Key
 write_deps C s user = once (deps C s ++ (map (λ n. keys.Rows n) (tables_for C (in_stmt s)) ++ keys.User user ∷ []))
-
--- ---- touches
-
--- Rows of the target where rows were written
-abbrev pub touches_if : Reply → List ℕ → List Key
-touches_if (replies.Wrote verb count) target = keys.Rows target ∷ []
-touches_if (replies.Rows rows) target = []
-touches_if replies.Done target = []
-touches_if (replies.Refused r) target = []
-touches_if replies.NoMemory target = []
-
--- the target is the first of the tables
-abbrev pub targets : List (List ℕ) → Reply → List Key
-targets [] r = []
-targets (n ∷ ns) r = touches_if r n
-
--- of a query or a write with that reply: Rows of the target, which is the first table that a write names, where it isn't refused
-abbrev pub touches : Stmt → Reply → List Key
-touches s r = targets (tables_in (in_stmt s)) r

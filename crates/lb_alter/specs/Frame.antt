@@ -1,5 +1,5 @@
--- What stays: the records and rows of keys that a change doesn't touch, and the dependencies of a statement where their records stay.
-use Rattle.std.specs.Prelude.{ℕ, ◌≡◌, false, List, find}
+-- What stays: the records and rows of keys that a change doesn't touch, all users, and the dependencies of a statement where their records stay.
+use Rattle.std.specs.Prelude.{ℕ, ◌≡◌, true, false, List, find, is_some}
 use Rattle.std.specs.List.{AllByRecursion}
 use Rattle.lb_base.specs.declared.key.Key.{Key}
 use Rattle.lb_base.specs.declared.key.Key.TheVariants as keys
@@ -10,7 +10,7 @@ use Rattle.lb_cat.specs.Keys.{has_key}
 use Rattle.lb_cat.specs.Catalog.{Cat, table_named, policy_named, component_named, user_named}
 use Rattle.lb_alter.specs.Stored.{Checks}
 use Rattle.lb_alter.specs.Change.{change}
-use Rattle.lb_alter.specs.Deps.{deps}
+use Rattle.lb_alter.specs.Deps.{deps, write_deps}
 
 -- the two catalogues have the same record under the key
 abbrev pub SameRecord : Cat → Cat → Key → Type 0
@@ -33,6 +33,10 @@ abbrev pub UntouchedStays : Checks → Type 0
 UntouchedStays K = (C : Cat) (T : Tables) (user : List ℕ) (s : Change) (k : Key) → has_key k (change K C T user s).touched ≡ false
     → SameRecord C (change K C T user s).cat k × SameRows T (change K C T user s).tables k
 
+-- no change takes a user's record away
+abbrev pub UsersStay : Checks → Type 0
+UsersStay K = (C : Cat) (T : Tables) (user : List ℕ) (s : Change) (n : List ℕ) → is_some (user_named C n) ≡ true → is_some (user_named (change K C T user s).cat n) ≡ true
+
 -- the two catalogues have the same records under some keys
 abbrev pub SameOn : List Key → Cat → Cat → Type 0
 SameOn ks C D = AllByRecursion (SameRecord C D) ks
@@ -40,3 +44,7 @@ SameOn ks C D = AllByRecursion (SameRecord C D) ks
 -- what a statement depends on is the same where the records that it depends on are
 abbrev pub DepsStay : Type 0
 DepsStay = (C D : Cat) (s : Stmt) → SameOn (deps C s) C D → deps D s ≡ deps C s
+
+-- and so is what the commit of a write depends on
+abbrev pub WriteDepsStay : Type 0
+WriteDepsStay = (C D : Cat) (s : Stmt) (user : List ℕ) → SameOn (deps C s) C D → write_deps D s user ≡ write_deps C s user

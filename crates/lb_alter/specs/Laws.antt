@@ -17,10 +17,10 @@ use Rattle.lb_alter.specs.Sound.{IsSound}
 use Rattle.lb_alter.specs.Steady.{IsSteady}
 use Rattle.lb_alter.specs.Stored.{Checks}
 
--- what a statement keeps that was read from a text: CREATE TABLE has an element, and a new policy's name is folded
+-- what a statement keeps that was read from a text: CREATE TABLE has an element, a new policy a component, and its name is folded
 abbrev pub IsAsRead : Change → Type 0
 IsAsRead (changes.CreateTable n es policy) = 1 ≤ length es
-IsAsRead (changes.CreatePolicy d) = IsFolded d.name
+IsAsRead (changes.CreatePolicy d) = IsFolded d.name × (1 ≤ length d.components)
 IsAsRead s = Unit {0}
 
 -- the first catalogue is sound

@@ -9,9 +9,9 @@ use Rattle.lb_alter.specs.Columns.{HasItsColumns, HasOneLabelColumn, HasFewColum
 use Rattle.lb_alter.specs.Labelled.{LabelsBelong, HeldLabelsAreThere, HasItsShape}
 use Rattle.lb_alter.specs.Valid.{StoresValid}
 
--- a policy has at most 16 components
+-- a policy has a component, and at most 16
 abbrev pub HasFewComponents : Policy → Type 0
-HasFewComponents p = length p.components ≤ 16
+HasFewComponents p = (1 ≤ length p.components) × (length p.components ≤ 16)
 
 -- a component has no more elements than its kind may have, all different, and each parent is an earlier element
 abbrev pub IsWellMade : Component → Type 0

@@ -1,5 +1,5 @@
 // Laws over the definitions. Each is the contract of a function that does nothing.
-ghost use Rattle.lb_alter.specs.Frame.{DepsStay, UntouchedStays};
+ghost use Rattle.lb_alter.specs.Frame.{DepsStay, UntouchedStays, UsersStay, WriteDepsStay};
 ghost use Rattle.lb_alter.specs.Laws.{
   CredentialsFit,
   FirstIsSound,
@@ -47,14 +47,21 @@ pub fn untouched_stays()
     ensures { (K : Checks) → UntouchedStays K }
 {}
 
+/// No change takes a user's record away: a user who has one keeps one, also where nothing is left that was granted.
+pub fn users_stay()
+    ensures { (K : Checks) → UsersStay K }
+{}
+
 /// The catalogue with which every journal begins is sound.
 pub fn first_is_sound()
     ensures { (K : Checks) → FirstIsSound K }
 {}
 
-/// What a statement depends on is the same where the records that it depends on are.
+/// What a statement depends on is the same where the records that it depends on are, and so is what the commit of a write depends
+/// on.
 pub fn dependencies_stay()
-    ensures { DepsStay }
+    ensures plans { DepsStay }
+    ensures writes { WriteDepsStay }
 {}
 
 /// What is asked of the rules of names and types can be met.

@@ -1,5 +1,6 @@
 mod Chosen
 mod Doubled
 mod Fit
-mod Framed
+mod Refusing
+pub mod Framed
 mod Left

@@ -76,3 +76,9 @@ WroteExactly = (checks : Checks) (C : Cat) (c : Cred) (T : Tables) (day : ℤ) (
 abbrev pub StatementFrame : Type 0
 StatementFrame = (checks : Checks) (C : Cat) (c : Cred) (T U : Tables) (day : ℤ) (s : Stmt) → Agrees (SameMention C C T U) (in_stmt s)
     → answer checks C c T day s ≡ answer checks C c U day s
+
+-- Two catalogues that have the same records of what a statement mentions, and of what its tables mention, answer it alike, where
+-- names and types are refused alike.
+abbrev pub StatementsAcross : Type 0
+StatementsAcross = (checks : Checks) (C D : Cat) (c : Cred) (T U : Tables) (day : ℤ) (s : Stmt) → Agrees (SameMention C D T U) (in_stmt s)
+    → checks C.tables C.policies s ≡ checks D.tables D.policies s → answer checks C c T day s ≡ answer checks D c U day s

@@ -6,7 +6,7 @@ ghost use Rattle.lb_cat.specs.Catalog.{Table, Policy};
 ghost use Rattle.lb_answer.specs.Basis.{Basis};
 ghost use Rattle.lb_answer.specs.Candidates.{Marked, other_rows};
 ghost use Rattle.lb_answer.specs.Keys.{is_doubled, keys_of};
-ghost use Rattle.lb_answer.specs.Laws.{AreKept, AreRows, HasTwo, OthersStay, Fits, WroteExactly, StatementFrame};
+ghost use Rattle.lb_answer.specs.Laws.{AreKept, AreRows, HasTwo, OthersStay, Fits, WroteExactly, StatementFrame, StatementsAcross};
 
 /// The candidates of UPDATE and DELETE are the rows that WHERE keeps of the visible ones, and where one of these tests faults,
 /// its first fault; and each row of the table has its mark.
@@ -44,4 +44,10 @@ pub fn rows_are_left_by_writes()
 /// permissions and masks mention.
 pub fn statements_have_a_frame()
     ensures { StatementFrame }
+{}
+
+/// Two catalogues that have the same records of what a query or a write mentions, and of what its tables mention, answer it alike,
+/// where names and types are refused alike.
+pub fn catalogues_answer_statements_alike()
+    ensures { StatementsAcross }
 {}

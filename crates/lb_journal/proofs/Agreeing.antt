@@ -1,13 +1,12 @@
 -- Catalogues with the same records under what is mentioned agree on all that names and types ask of them.
-use Rattle.std.proofs.Common.{◌≡◌, refl, sym, ap, subst, ◌∙◌, ℕ, Bool, true, false, cond, List, [], ◌∷◌, ◌++◌, map, Option, Some, None, is_some}
-use Rattle.std.specs.Prelude.{find, filter, filter_map, option_map, ◌&&◌}
+use Rattle.std.proofs.Common.{◌≡◌, refl, sym, ap, subst, ◌∙◌, ℕ, Bool, true, false, cond, List, [], ◌∷◌, ◌++◌, Option, Some, None, is_some}
+use Rattle.std.specs.Prelude.{find, filter, filter_map, option_map}
 use Rattle.std.specs.List.{AllByRecursion}
 use Rattle.std.specs.Option.{option_and_then}
-use Rattle.std.specs.Str.{bytes_eq}
 use Rattle.std.proofs.lemmas.Slice.Eq.{bytes_eq-Decides}
-use Rattle.lb_base.specs.Names.{is_name, folded, IsFolded}
-use Rattle.lb_cat.specs.Catalog.{Cat, Table, Policy, is_policy, table_named, policy_named, label_named}
-use Rattle.lb_names.specs.Mentions.{Mention, Mentions, table, policy, label, tables_in, policies_in}
+use Rattle.lb_base.specs.Names.{IsFolded}
+use Rattle.lb_cat.specs.Catalog.{Cat, Policy, is_policy, table_named, policy_named, label_named}
+use Rattle.lb_names.specs.Mentions.{Mentions, table, policy, label, tables_in, policies_in}
 use Rattle.lb_names.specs.Agreeing.{Agree, AgreeOn}
 use Rattle.lb_alter.specs.Deps.{in_tables, policy_of_table, is_key_name, tables_for, deps_of}
 use Rattle.lb_alter.specs.Frame.{SameOn}
@@ -46,7 +45,7 @@ module _ (C D : Cat) (names_C : HasFoldedNames C) (names_D : HasFoldedNames D) w
   SamePolicy p = policy_named D p ≡ policy_named C p
 
   -- a policy whose name is no upper-case name is there in neither
-  policies_all : (ps : List (List ℕ)) → AllByRecursion SamePolicy (filter is_key_name ps) → AllByRecursion SamePolicy ps
+  pub policies_all : (ps : List (List ℕ)) → AllByRecursion SamePolicy (filter is_key_name ps) → AllByRecursion SamePolicy ps
   policies_all [] h = tt
   policies_all (p ∷ ps) h =
       elim (is_key_name p) as (λ b. is_key_name p ≡ b → AllByRecursion SamePolicy (cond b (p ∷ filter is_key_name ps) (filter is_key_name ps)) → SamePolicy p × AllByRecursion SamePolicy ps) [

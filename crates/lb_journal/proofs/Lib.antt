@@ -3,4 +3,6 @@ pub mod Roots
 pub mod Stamps
 pub mod There
 pub mod Lasting
+pub mod Writes
 pub mod Agreeing
+pub mod Answering

@@ -1,12 +1,12 @@
 -- Stamps tell what changed: where a key's stamp is what it was, so are its record and its rows.
-use Rattle.std.proofs.Common.{◌≡◌, ◌⊎◌, inl, inr, refl, sym, ap, subst, ◌∙◌, ℕ, zero, suc, ◌+◌, ◌<◌, ◌≤◌, Bool, true, false, ◌||◌, List, [], ◌∷◌, ◌++◌, length, Option, Some, None, is_some, arith}
-use Rattle.std.specs.Prelude.{ℤ, find, if◌then◌else◌}
+use Rattle.std.proofs.Common.{◌≡◌, ◌⊎◌, inl, inr, refl, sym, ap, subst, ◌∙◌, ℕ, zero, suc, ◌+◌, ◌<◌, ◌≤◌, Bool, true, false, List, [], ◌∷◌, length, Option, Some, None, is_some, arith}
+use Rattle.std.specs.Prelude.{ℤ, find}
 use Rattle.std.specs.Str.{bytes_eq}
 use Rattle.lb_base.specs.declared.key.Key.{Key}
 use Rattle.lb_base.specs.declared.key.Key.TheVariants as keys
 use Rattle.lb_stmt.specs.declared.write.Stmt.{Stmt}
 use Rattle.lb_stmt.specs.declared.write.Stmt.TheVariants as stmts
-use Rattle.lb_rows.specs.Tables.{Tables, Version, is_version, put_version}
+use Rattle.lb_rows.specs.Tables.{Tables, Version, is_version}
 use Rattle.lb_cat.specs.declared.entry.Entry.{Entry}
 use Rattle.lb_cat.specs.declared.entry.Entry.TheVariants as entries
 use Rattle.lb_cat.specs.Catalog.{Cat, table_named, policy_named, component_named, user_named}
@@ -14,12 +14,12 @@ use Rattle.lb_cat.specs.Credentials.{cred}
 use Rattle.lb_cat.specs.Keys.{has_key}
 use Rattle.lb_alter.specs.Refusing.{Changed}
 use Rattle.lb_alter.specs.Frame.{SameRecord, SameRows}
-use Rattle.lb_alter.proofs.Untouched.{or_left, turned, put_other, untouched_stays}
+use Rattle.lb_alter.proofs.Untouched.{or_left, turned, put_other, untouched_stays, users_stay}
 use Rattle.lb_answer.specs.Answer.{Answered}
 use Rattle.lb_journal.specs.Rules.{stored_rules, answered_to}
-use Rattle.lb_journal.specs.State.{State, first, put_maybe, rows_touched, answered, outcome, step, is_there, stamp_after, left_by, after}
-use Rattle.lb_journal.specs.Replay.{Steps, Runs, Replay}
-use Rattle.lb_journal.specs.Laws.{is_user_key, SameAt, AbsentIsZero, StampsTell, SameStampSameRecord}
+use Rattle.lb_journal.specs.State.{State, first, put_maybe, rows_touched, answered, step, is_there, stamp_after, left_by}
+use Rattle.lb_journal.specs.Replay.{Steps, Runs}
+use Rattle.lb_journal.specs.Laws.{SameAt, AbsentIsZero, StampsTell, SameStampSameRecord}
 
 -- ---- the same record and the same rows
 
@@ -146,34 +146,66 @@ still at S (f ∷ es) T k h le lt e = go (kept_by at S h.0 k (entry_by at S f h.
     go (inl b) later = same_then k S h.0 T b.0 (later (omega (arith, b.1, le)) (omega (arith, b.1, lt)) (e ∙ sym b.1))
     go (inr n) later = absurd (not_newer (S.stamp k) (T.stamp k) lt e (newer (S.stamp k) (at + 1) h.0 es T k h.2 (omega (arith, le)) n))
 
--- ---- what is there has a stamp
+-- ---- what is there has a stamp, or is as it was at first
 
 IsStamped : Key → State → Type 0
-IsStamped k S = is_there S.cat S.tables k ≡ true → 0 < S.stamp k
+IsStamped k S = is_there S.cat S.tables k ≡ true → (0 < S.stamp k) ⊎ SameAt k first S
 
 stamped_by : (at : ℕ) (S U : State) (k : Key) → By at k S U → IsStamped k S → IsStamped k U
 unfolding By IsStamped
-stamped_by at S U k (inl b) h there = omega (arith, b.1)
+stamped_by at S U k (inl b) h there = inl (omega (arith, b.1))
 stamped_by at S U k (inr (inl b)) h there = absurd (let j : true ≡ false = sym there ∙ b.0 in cc)
-stamped_by at S U k (inr (inr b)) h there = let lt = h (sym (there_stays k S U b.0) ∙ there) in omega (arith, b.1, lt)
+stamped_by at S U k (inr (inr b)) h there = go (h (sym (there_stays k S U b.0) ∙ there))
+  where
+    go : (0 < S.stamp k) ⊎ SameAt k first S → (0 < U.stamp k) ⊎ SameAt k first U
+    go (inl lt) = inl (omega (arith, b.1, lt))
+    go (inr same) = inr (same_then k first S U same b.0)
 
 all_stamped : (at : ℕ) (S : State) (es : List Entry) (T : State) (k : Key) → Runs at S es T → IsStamped k S → IsStamped k T
 all_stamped at S [] T k h i = subst (λ (U : State). IsStamped k U) (sym h) i
 all_stamped at S (e ∷ es) T k h i = all_stamped (at + 1) h.0 es T k h.2 (stamped_by at S h.0 k (entry_by at S e h.0 k h.1) i)
 
-first_stamped : (k : Key) → is_user_key k ≡ false → IsStamped k first
+first_stamped : (k : Key) → IsStamped k first
 unfolding IsStamped
-first_stamped (keys.Table n) u there = absurd cc
-first_stamped (keys.Rows n) u there = absurd cc
-first_stamped (keys.Policy n) u there = absurd cc
-first_stamped (keys.Component n) u there = absurd cc
-first_stamped (keys.User n) u there = absurd cc
+first_stamped k there = inr (same_self k first.cat first.tables)
 
 pub stamps_tell : StampsTell
 unfolding IsStamped
-stamps_tell J S k h u there = all_stamped 0 first J S k h (first_stamped k u) there
+stamps_tell J S k h there = all_stamped 0 first J S k h (first_stamped k) there
 
--- what isn't there has the stamp 0
+-- ---- what was there at first stays there
+
+IsKept : Key → State → Type 0
+IsKept k S = is_there first.cat first.tables k ≡ true → is_there S.cat S.tables k ≡ true
+
+-- no statement takes a user's record away
+step_keeps : (S : State) (user : List ℕ) (groups : List (List ℕ)) (day : ℤ) (s : Stmt) (n : List ℕ) → is_some (user_named S.cat n) ≡ true → is_some (user_named (step S user groups day s).cat n) ≡ true
+step_keeps S user groups day (stmts.Change c) n h = users_stay stored_rules S.cat S.tables user c n h
+step_keeps S user groups day (stmts.Select s) n h = h
+step_keeps S user groups day (stmts.Insert s) n h = h
+step_keeps S user groups day (stmts.Update s) n h = h
+step_keeps S user groups day (stmts.Delete s) n h = h
+
+entry_keeps : (at : ℕ) (S : State) (e : Entry) (T : State) (k : Key) → Steps at S e T → IsKept k S → IsKept k T
+unfolding IsKept
+entry_keeps at S (entries.Open user groups) T k h i there = subst (λ (U : State). is_there U.cat U.tables k ≡ true) (sym h) (i there)
+entry_keeps at S (entries.Said d) T (keys.User n) h i there =
+    subst (λ (U : State). is_some (user_named U.cat n) ≡ true) (sym h.2) (step_keeps S d.user d.groups d.day h.0 n (i there))
+entry_keeps at S (entries.Said d) T (keys.Table n) h i there = absurd cc
+entry_keeps at S (entries.Said d) T (keys.Rows n) h i there = absurd cc
+entry_keeps at S (entries.Said d) T (keys.Policy n) h i there = absurd cc
+entry_keeps at S (entries.Said d) T (keys.Component n) h i there = absurd cc
+
+all_kept : (at : ℕ) (S : State) (es : List Entry) (T : State) (k : Key) → Runs at S es T → IsKept k S → IsKept k T
+all_kept at S [] T k h i = subst (λ (U : State). IsKept k U) (sym h) i
+all_kept at S (e ∷ es) T k h i = all_kept (at + 1) h.0 es T k h.2 (entry_keeps at S e h.0 k h.1 i)
+
+first_kept : (k : Key) → IsKept k first
+unfolding IsKept
+first_kept k there = there
+
+-- ---- what isn't there has the stamp 0
+
 IsZero : Key → State → Type 0
 IsZero k S = is_there S.cat S.tables k ≡ false → S.stamp k ≡ 0
 
@@ -197,30 +229,56 @@ is_none : {A : Type 0} (o : Option A) → is_some o ≡ false → o ≡ None
 is_none None h = refl
 is_none (Some x) h = absurd cc
 
-absent : (k : Key) (S T : State) → is_user_key k ≡ false → is_there S.cat S.tables k ≡ false → is_there T.cat T.tables k ≡ false → SameAt k S T
-absent (keys.Table n) S T u h i = (is_none (table_named T.cat n) i ∙ sym (is_none (table_named S.cat n) h), tt)
-absent (keys.Rows n) S T u h i = (tt, is_none (find (is_version n) T.tables) i ∙ sym (is_none (find (is_version n) S.tables) h))
-absent (keys.Policy n) S T u h i = (is_none (policy_named T.cat n) i ∙ sym (is_none (policy_named S.cat n) h), tt)
-absent (keys.Component n) S T u h i = (is_none (component_named T.cat n) i ∙ sym (is_none (component_named S.cat n) h), tt)
-absent (keys.User n) S T u h i = absurd cc
+absent : (k : Key) (S T : State) → is_there S.cat S.tables k ≡ false → is_there T.cat T.tables k ≡ false → SameAt k S T
+absent (keys.Table n) S T h i = (is_none (table_named T.cat n) i ∙ sym (is_none (table_named S.cat n) h), tt)
+absent (keys.Rows n) S T h i = (tt, is_none (find (is_version n) T.tables) i ∙ sym (is_none (find (is_version n) S.tables) h))
+absent (keys.Policy n) S T h i = (is_none (policy_named T.cat n) i ∙ sym (is_none (policy_named S.cat n) h), tt)
+absent (keys.Component n) S T h i = (is_none (component_named T.cat n) i ∙ sym (is_none (component_named S.cat n) h), tt)
+absent (keys.User n) S T h i = (is_none (user_named T.cat n) i ∙ sym (is_none (user_named S.cat n) h), tt)
 
-not_there : (k : Key) (S : State) → IsStamped k S → S.stamp k ≡ 0 → is_there S.cat S.tables k ≡ false
+pub same_turned : (k : Key) (S T : State) → SameAt k S T → SameAt k T S
+same_turned (keys.Table n) S T h = (sym h.0, tt)
+same_turned (keys.Rows n) S T h = (tt, sym h.1)
+same_turned (keys.Policy n) S T h = (sym h.0, tt)
+same_turned (keys.Component n) S T h = (sym h.0, tt)
+same_turned (keys.User n) S T h = (sym h.0, tt)
+
+-- what is there with the stamp 0 is as it was at first
+as_first : (k : Key) (S : State) → IsStamped k S → S.stamp k ≡ 0 → is_there S.cat S.tables k ≡ true → SameAt k first S
 unfolding IsStamped
-not_there k S h e = go (is_there S.cat S.tables k) refl
+as_first k S h e there = go (h there)
   where
-    go : (b : Bool) → is_there S.cat S.tables k ≡ b → b ≡ false
-    go false f = refl
-    go true f = let lt = h f in absurd (omega (arith, lt, e))
+    go : (0 < S.stamp k) ⊎ SameAt k first S → SameAt k first S
+    go (inl lt) = absurd (omega (arith, lt, e))
+    go (inr same) = same
+
+-- what is there with the stamp 0 in one state is there in every other one
+there_too : (k : Key) (S T : State) → IsStamped k S → IsKept k T → S.stamp k ≡ 0 → is_there S.cat S.tables k ≡ true → is_there T.cat T.tables k ≡ true
+unfolding IsKept
+there_too k S T h kept e there = kept (sym (there_stays k first S (as_first k S h e there)) ∙ there)
+
+-- where the stamp is 0 in both
+both_zero : (k : Key) (S T : State) → IsStamped k S → IsStamped k T → IsKept k S → IsKept k T → S.stamp k ≡ 0 → T.stamp k ≡ 0 → SameAt k S T
+both_zero k S T h i kept_S kept_T e f = go (is_there S.cat S.tables k) (is_there T.cat T.tables k) refl refl
+  where
+    go : (a b : Bool) → is_there S.cat S.tables k ≡ a → is_there T.cat T.tables k ≡ b → SameAt k S T
+    go true true p q = same_then k S first T (same_turned k first S (as_first k S h e p)) (as_first k T i f q)
+    go false false p q = absent k S T p q
+    go true false p q = absurd (let j : true ≡ false = sym (there_too k S T h kept_T e p) ∙ q in cc)
+    go false true p q = absurd (let j : true ≡ false = sym (there_too k T S i kept_S f q) ∙ p in cc)
 
 pub same_record : SameStampSameRecord
-same_record J K S T k h r u e = go (S.stamp k) refl
+same_record J K S T k h r e = go (S.stamp k) refl
   where
     replayed : S.stamp k ≤ length J
     replayed = let p = bounded 0 first J S k h (omega arith) in omega (arith, p)
 
     of_S : IsStamped k S
-    of_S = all_stamped 0 first J S k h (first_stamped k u)
+    of_S = all_stamped 0 first J S k h (first_stamped k)
+
+    kept_S : IsKept k S
+    kept_S = all_kept 0 first J S k h (first_kept k)
 
     go : (n : ℕ) → S.stamp k ≡ n → SameAt k S T
-    go zero f = absent k S T u (not_there k S of_S f) (not_there k T (all_stamped (length J) S K T k r of_S) (e ∙ f))
+    go zero f = both_zero k S T of_S (all_stamped (length J) S K T k r of_S) kept_S (all_kept (length J) S K T k r kept_S) f (e ∙ f)
     go (suc n) f = still (length J) S K T k r replayed (omega (arith, f)) e

@@ -1,15 +1,13 @@
 -- What holds of every journal.
-use Rattle.std.specs.Prelude.{ℕ, ◌≡◌, ◌<◌, Bool, true, false, List, [], ◌∷◌, ◌++◌, length}
-use Rattle.std.specs.List.{AllByRecursion}
+use Rattle.std.specs.Prelude.{ℕ, ◌≡◌, ◌<◌, ◌⊎◌, true, false, List, length}
 use Rattle.lb_base.specs.declared.key.Key.{Key}
-use Rattle.lb_base.specs.declared.key.Key.TheVariants as keys
 use Rattle.lb_stmt.specs.declared.write.Stmt.{Stmt}
 use Rattle.lb_tok.specs.Canonical.{canonical}
 use Rattle.lb_tok.specs.Spelled.{IsSpoken}
 use Rattle.lb_cat.specs.declared.entry.Entry.{Entry}
 use Rattle.lb_cat.specs.declared.reply.Reply.{Reply}
 use Rattle.lb_alter.specs.Frame.{SameRecord, SameRows}
-use Rattle.lb_journal.specs.State.{State, is_there}
+use Rattle.lb_journal.specs.State.{State, first, is_there}
 use Rattle.lb_journal.specs.Replay.{Runs, Replay, Rep}
 
 -- no two statements have one canonical text; whoever reads texts proves it
@@ -26,14 +24,6 @@ HasOneReply = TextsAreTold → (J : List Entry) (k : ℕ) (r q : Reply) → Rep 
 
 -- ---- stamps
 
--- the key of a user
-abbrev pub is_user_key : Key → Bool
-is_user_key (keys.User n) = true
-is_user_key (keys.Table n) = false
-is_user_key (keys.Rows n) = false
-is_user_key (keys.Policy n) = false
-is_user_key (keys.Component n) = false
-
 -- the key has the same record and the same rows in both states
 abbrev pub SameAt : Key → State → State → Type 0
 SameAt k S T = SameRecord S.cat T.cat k × SameRows S.tables T.tables k
@@ -42,11 +32,10 @@ SameAt k S T = SameRecord S.cat T.cat k × SameRows S.tables T.tables k
 abbrev pub AbsentIsZero : Type 0
 AbsentIsZero = (J : List Entry) (S : State) (k : Key) → Replay J S → is_there S.cat S.tables k ≡ false → S.stamp k ≡ 0
 
--- where something is there, it is above 0, but for users: the first one is there from the beginning
+-- where something is there, it is above 0, or the record and the rows are those of the first state, in which only the user SECADMIN is there
 abbrev pub StampsTell : Type 0
-StampsTell = (J : List Entry) (S : State) (k : Key) → Replay J S → is_user_key k ≡ false → is_there S.cat S.tables k ≡ true → 0 < S.stamp k
+StampsTell = (J : List Entry) (S : State) (k : Key) → Replay J S → is_there S.cat S.tables k ≡ true → (0 < S.stamp k) ⊎ SameAt k first S
 
--- Where a key, but that of a user, has the same stamp after some more entries, it has the same record and the same rows.
+-- where a key has the same stamp after some more entries, it has the same record and the same rows
 abbrev pub SameStampSameRecord : Type 0
-SameStampSameRecord =
-    (J K : List Entry) (S T : State) (k : Key) → Replay J S → Runs (length J) S K T → is_user_key k ≡ false → T.stamp k ≡ S.stamp k → SameAt k S T
+SameStampSameRecord = (J K : List Entry) (S T : State) (k : Key) → Replay J S → Runs (length J) S K T → T.stamp k ≡ S.stamp k → SameAt k S T

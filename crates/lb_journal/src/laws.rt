@@ -9,7 +9,7 @@ ghost use Rattle.lb_journal.specs.State.{State};
 ghost use Rattle.lb_journal.specs.Replay.{Replay, Rep};
 ghost use Rattle.lb_journal.specs.Roots.{root};
 ghost use Rattle.lb_journal.specs.Engine.{RightGives};
-ghost use Rattle.lb_journal.specs.Lasting.{AnswerStays, RightLasts};
+ghost use Rattle.lb_journal.specs.Lasting.{AnswerStays, RightLasts, WriteDependenciesLast};
 ghost use Rattle.lb_journal.specs.Laws.{AbsentIsZero, HasOneReplay, HasOneReply, SameStampSameRecord, StampsTell};
 
 use crate::engine::Engine;
@@ -36,17 +36,28 @@ pub fn root_stays()
     ensures stays { (J K : List Entry) (k : ℕ) → k < length J → root (J ++ K) k ≡ root J k }
 {}
 
-/// What isn't there has the stamp 0. But for users, what is there has a stamp above 0; and where a key's stamp is what it was, so
-/// are its record and its rows.
+/// What isn't there has the stamp 0. What is there has a stamp above 0, or is as it was in the first state. And where a key's stamp
+/// is what it was, so are its record and its rows.
 pub fn stamps_tell()
     ensures absent { AbsentIsZero }
     ensures there { StampsTell }
     ensures same { SameStampSameRecord }
 {}
 
+/// Two sound catalogues with the same records under what a statement depends on answer it alike, for each session, tables and day.
+pub fn answers_stay()
+    ensures { AnswerStays }
+{}
+
 /// What an engine's plan that is right for a statement answers, where session and tables fit; and such a plan stays right while
 /// no stamp of what the statement depends on moves.
 pub fn right_plans_last<E: Engine>()
     ensures gives { RightGives E.means E.takes }
-    ensures lasts { AnswerStays → RightLasts E.means E.takes }
+    ensures lasts { RightLasts E.means E.takes }
+{}
+
+/// Where no stamp of what the commit of a write depends on moves, the write depends on the same keys, with the same records and
+/// rows, and the session's credentials are the same so far as these keys decide them.
+pub fn write_dependencies_last()
+    ensures { WriteDependenciesLast }
 {}

@@ -8,5 +8,5 @@ mod laws;
 pub use engine::Engine;
 pub use laws::{
     a_journal_has_one_replay, a_journal_leaves_a_state, a_statement_has_a_reply, right_plans_last,
-    root_stays, stamps_tell,
+    root_stays, stamps_tell, write_dependencies_last,
 };

@@ -1,5 +1,10 @@
 pub mod Framed
+pub mod Held
+pub mod Lists
+pub mod Used
+pub mod Access
 pub mod Agreeing
 pub mod Meant
 pub mod Seen
+pub mod Across
 pub mod Stable

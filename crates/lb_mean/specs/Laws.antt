@@ -4,6 +4,7 @@ use Rattle.std.specs.List.{flat_map}
 use Rattle.lb_base.specs.declared.value.Value.{Value}
 use Rattle.lb_base.specs.Evaluated.{Evaluated}
 use Rattle.lb_tree.specs.declared.query.Select.{Select}
+use Rattle.lb_stmt.specs.declared.write.Stmt.TheVariants as stmts
 use Rattle.lb_cat.specs.declared.catalog.ColumnRec.{ColumnRec}
 use Rattle.lb_cat.specs.declared.catalog.PermissionRec.{PermissionRec}
 use Rattle.lb_cat.specs.declared.catalog.MaskRec.{MaskRec}
@@ -13,7 +14,7 @@ use Rattle.lb_names.specs.Mentions.{Mention, Mentions, table, policy, label, in_
 use Rattle.lb_rows.specs.Tables.{Tables, rows_of}
 use Rattle.lb_mean.specs.Visible.{policy_of_type, guarded}
 use Rattle.lb_mean.specs.Output.{rows_told}
-use Rattle.lb_mean.specs.Answer.{Checks, query_answer}
+use Rattle.lb_mean.specs.Answer.{Checks, access_refused, query_answer}
 use Rattle.lb_mean.specs.Frame.{Agrees}
 
 -- ---- what a table mentions
@@ -68,6 +69,16 @@ RowsFrame = (C D : Cat) (c : Cred) (T U : Tables) (day : ℤ) (s : Select) → A
 abbrev pub AnswerFrame : Type 0
 AnswerFrame = (checks : Checks) (C : Cat) (c : Cred) (T U : Tables) (day : ℤ) (s : Select) → Agrees (SameMention C C T U) (in_select s)
     → query_answer checks C c T day s ≡ query_answer checks C c U day s
+
+-- The refusal of a query by privileges, protected columns and masks depends on the same records, whatever the rows: those of one
+-- list are the same in both catalogues.
+abbrev pub RefusalFrame : Type 0
+RefusalFrame = (C D : Cat) (c : Cred) (T : Tables) (s : Select) → Agrees (SameMention C D T T) (in_select s) → access_refused C c s ≡ access_refused D c s
+
+-- so the answer of a query is the same in two catalogues with the same of these, if names and types are refused alike
+abbrev pub AcrossFrame : Type 0
+AcrossFrame = (checks : Checks) (C D : Cat) (c : Cred) (T U : Tables) (day : ℤ) (s : Select) → Agrees (SameMention C D T U) (in_select s)
+    → checks C.tables C.policies (stmts.Select s) ≡ checks D.tables D.policies (stmts.Select s) → query_answer checks C c T day s ≡ query_answer checks D c U day s
 
 -- ---- the two-world law
 

@@ -45,13 +45,14 @@ privilege_lacked C c which n = option_and_then (lacks c which n) (table_named C 
 abbrev pub component_at : Policy → ℕ → List ℕ
 component_at p at = slice_index_or p.components at []
 
+-- the columns of a table, none where it isn't there
+abbrev pub columns_in : Option Table → List ColumnRec
+columns_in None = []
+columns_in (Some t) = t.columns
+
 -- the columns of the table with that name
 abbrev pub columns_of : Cat → List ℕ → List ColumnRec
 columns_of C n = columns_in (table_named C n)
-  where
-    columns_in : Option Table → List ColumnRec
-    columns_in None = []
-    columns_in (Some t) = t.columns
 
 -- a column with its label can't be read
 abbrev pub column_unreadable : Cred → Policy → List ℕ → LabelRec → Option Refusal

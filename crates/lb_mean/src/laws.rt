@@ -3,7 +3,7 @@ ghost use Rattle.std.specs.Prelude.{◌≡◌, Bool, List};
 ghost use Rattle.std.specs.Cmp.{IsStrictWeakOrder};
 ghost use Rattle.std.specs.List.Sorted.{IsSortedBy, IsStableBy};
 ghost use Rattle.lb_mean.specs.Frame.{ExprFrame, CondFrame, QueryFrame};
-ghost use Rattle.lb_mean.specs.Laws.{RowsFrame, AnswerFrame, TwoWorlds};
+ghost use Rattle.lb_mean.specs.Laws.{RowsFrame, AnswerFrame, RefusalFrame, AcrossFrame, TwoWorlds};
 ghost use Rattle.lb_mean.specs.Ordered.{sorted};
 
 /// The meaning of an expression, a condition or a query depends on the session, the day, and what is seen of the tables and
@@ -19,6 +19,13 @@ pub fn meaning_has_a_frame()
 pub fn queries_have_a_frame()
     ensures rows { RowsFrame }
     ensures answer { AnswerFrame }
+{}
+
+/// Two catalogues that have the same records of what a query mentions, and of what its tables mention, refuse it alike by privileges,
+/// protected columns and masks. Over the same rows they answer it alike, where names and types are refused alike.
+pub fn catalogues_answer_queries_alike()
+    ensures refusals { RefusalFrame }
+    ensures answer { AcrossFrame }
 {}
 
 /// A query has the same answer in two worlds of which the session sees the same, and whose permissions and masks read the same.

@@ -31,9 +31,8 @@ use Rattle.lb_names.specs.Conditions.{compare_typed}
 use Rattle.lb_names.specs.Typing.{steps, says, means, answers}
 use Rattle.lb_names.specs.Same.{same}
 use Rattle.lb_names.specs.Qualify.{qualifying, qualify_steps, qualified_cond}
-use Rattle.lb_names.specs.Used.{used_items}
 use Rattle.lb_names.specs.Statements.{broken, names_refused, types_refused, permission_names_refused, permission_types_refused, mask_types_refused, permission_qualified}
-use Rattle.lb_names.specs.Small.{a, b, k, p, w, x, one, int, col, table, small}
+use Rattle.lb_names.specs.Small.{a, b, k, p, q, w, x, one, int, col, table, small}
 use Rattle.lb_names.specs.Examples as e
 use Rattle.lb_names.proofs.Heads.{query_marks_are, expr_marks_are, cond_marks_are}
 
@@ -56,6 +55,9 @@ target_twice = simp (query_marks_are, expr_marks_are, cond_marks_are, expr_atom 
 
 pub no_label_text : names_refused small e.no_label_text ≡ Some (BadLabel 0)
 no_label_text = simp (query_marks_are, expr_marks_are, cond_marks_are, expr_atom marked mark_steps) refl
+
+pub policy_before_text : names_refused small e.policy_before_text ≡ Some (Unknown q)
+policy_before_text = simp (query_marks_are, expr_marks_are, cond_marks_are, expr_atom marked mark_steps) refl
 
 pub column_of_where : names_refused small e.column_of_where ≡ Some (Unknown x)
 column_of_where = simp (query_marks_are, expr_marks_are, cond_marks_are, cond_compare marked mark_steps, expr_atom marked mark_steps) refl
@@ -111,15 +113,6 @@ count_in_mask = simp (cond_inquery typing (steps small), expr_atom typing (steps
 
 pub qualified : permission_qualified small (table k) e.unqualified ≡ e.with_its_names
 qualified = simp (qualified_cond_is, cond_and qualifying (qualify_steps small), cond_exists qualifying (qualify_steps small), cond_compare qualifying (qualify_steps small), expr_atom qualifying (qualify_steps small), item_value qualifying (qualify_steps small), query_roll qualifying (qualify_steps small), chain_roll qualifying (qualify_steps small), conds.rolls-And, conds.rolls-Exists, conds.rolls-Compare, exprs.rolls-Atom, items.rolls-Value) refl
-
-pub two_then_none : used_items small (marks_of e.two_then_none) ≡ e.used w [] ∷ e.used k (a ∷ b ∷ []) ∷ e.used k [] ∷ []
-two_then_none = simp (query_marks_are, expr_marks_are, cond_marks_are, out-roll-Query, cond_and marked mark_steps, cond_exists marked mark_steps, cond_isnull marked mark_steps, expr_atom marked mark_steps, item_value marked mark_steps, query_roll marked mark_steps, chain_roll marked mark_steps) refl
-
-pub one_then_one : used_items small (marks_of e.one_then_one) ≡ e.used w [] ∷ e.used k (a ∷ []) ∷ e.used k (b ∷ []) ∷ []
-one_then_one = simp (query_marks_are, expr_marks_are, cond_marks_are, out-roll-Query, cond_and marked mark_steps, cond_exists marked mark_steps, cond_isnull marked mark_steps, expr_atom marked mark_steps, item_value marked mark_steps, query_roll marked mark_steps, chain_roll marked mark_steps) refl
-
-pub all_columns : used_items small (marks_of e.all_columns) ≡ e.used w [] ∷ record (e.used k []) { everything = true } ∷ []
-all_columns = simp (query_marks_are, expr_marks_are, cond_marks_are, out-roll-Query, cond_exists marked mark_steps, expr_atom marked mark_steps, item_value marked mark_steps, item_everything marked mark_steps, query_roll marked mark_steps, chain_roll marked mark_steps) refl
 
 -- a query with ORDER BY, from its own outputs on
 select_is : (C : Catalogue) (s : Select) (wanted : Option (List Kind)) (total : Bool) (out : Typed (List Kind)) → list_any (is_total_key C) s.order ≡ total → (answers C s.query).kinds (record { subquery = false; one = false; total = total; wanted = wanted }) outermost 0 ≡ out → select_typed C s wanted ≡ (out >>= λ ks. keys_typed C ((answers C s.query).shown (record { subquery = false; one = false; total = total; wanted = wanted }) outermost) (out-Query s.query).distinct (out-Query s.query).items ks.0 s.order ks.1 >>= λ x. Ok (ks.0, x.1))

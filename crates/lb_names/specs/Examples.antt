@@ -14,7 +14,6 @@ use Rattle.lb_tree.specs.declared.query.Select.{Select}
 use Rattle.lb_stmt.specs.declared.write.Stmt.{Stmt}
 use Rattle.lb_stmt.specs.declared.write.Stmt.TheVariants as stmts
 use Rattle.lb_stmt.specs.declared.write.InsertSource.TheVariants as sources
-use Rattle.lb_names.specs.Used.{Used}
 use Rattle.lb_names.specs.Sights.{Name}
 use Rattle.lb_names.specs.Small.{a, b, c, d, k, l, p, q, t, u, w, x, col, of, int, one, word, plus, equals, sum_of, one_where, table, alias, chain, from, show, column, column_of, grouped, query, key, ordered, select, insert, set}
 
@@ -35,6 +34,10 @@ target_twice = insert k (Some (a ∷ a ∷ c ∷ [])) (sources.Rows ((exprs.Atom
 -- INSERT INTO T (L) VALUES (SECLABEL('P', 'x'))
 abbrev pub no_label_text : Stmt
 no_label_text = insert t (Some (l ∷ [])) (sources.Rows ((exprs.Atom (atoms.SecLabel p (120 ∷ [])) ∷ []) ∷ []))
+
+-- INSERT INTO T (L) VALUES (SECLABEL('P', 'x'), SECLABEL('Q', 'x')): and policies before label texts
+abbrev pub policy_before_text : Stmt
+policy_before_text = insert t (Some (l ∷ [])) (sources.Rows ((exprs.Atom (atoms.SecLabel p (120 ∷ [])) ∷ exprs.Atom (atoms.SecLabel q (120 ∷ [])) ∷ []) ∷ []))
 
 -- UPDATE K SET B = B, B = 'x', Q = 1 WHERE X = 1
 abbrev pub column_of_where : Stmt
@@ -119,21 +122,3 @@ unqualified = conds.And (equals (col a) one ∷ conds.Exists (query (show (col d
 -- K.A = 1 AND EXISTS (SELECT U.D FROM U WHERE U.B = 'x')
 abbrev pub with_its_names : Cond
 with_its_names = conds.And (equals (of k a) one ∷ conds.Exists (query (show (of u d) ∷ []) (from (table u)) (Some (equals (of u b) word))) ∷ [])
-
--- ---- columns that are named through FROM items
-
--- SELECT 1 FROM W WHERE EXISTS (SELECT 1 FROM K WHERE K.A IS NULL AND K.B IS NULL) AND EXISTS (SELECT 1 FROM K)
-abbrev pub two_then_none : Stmt
-two_then_none = select (query (show one ∷ []) (from (table w)) (Some (conds.And (conds.Exists (query (show one ∷ []) (from (table k)) (Some (conds.And (conds.IsNull (of k a) ∷ conds.IsNull (of k b) ∷ [])))) ∷ conds.Exists (query (show one ∷ []) (from (table k)) None) ∷ []))))
-
--- SELECT 1 FROM W WHERE EXISTS (SELECT 1 FROM K WHERE K.A IS NULL) AND EXISTS (SELECT K.B FROM K)
-abbrev pub one_then_one : Stmt
-one_then_one = select (query (show one ∷ []) (from (table w)) (Some (conds.And (conds.Exists (query (show one ∷ []) (from (table k)) (Some (conds.IsNull (of k a)))) ∷ conds.Exists (query (show (of k b) ∷ []) (from (table k)) None) ∷ []))))
-
--- SELECT 1 FROM W WHERE EXISTS (SELECT * FROM K)
-abbrev pub all_columns : Stmt
-all_columns = select (query (show one ∷ []) (from (table w)) (Some (conds.Exists (query (items.Everything ∷ []) (from (table k)) None))))
-
--- a table through which these columns are named
-abbrev pub used : Name → List Name → Used
-used table columns = record { tab = record { table = table; correlation = None }; columns = columns; everything = false }

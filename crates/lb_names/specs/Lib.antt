@@ -17,7 +17,6 @@ pub mod Typing
 pub mod Same
 pub mod Qualify
 pub mod Qualified
-pub mod Used
 pub mod OrderTyping
 pub mod Statements
 pub mod Small

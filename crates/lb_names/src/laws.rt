@@ -5,10 +5,9 @@ ghost use Rattle.lb_names.specs.declared.refused.Refused.TheVariants.{BadLabel, 
 ghost use Rattle.lb_names.specs.Examples as e;
 ghost use Rattle.lb_names.specs.Laws.{ColumnsStay, FormsAreQualified, FormsHaveAFrame, FormsKeepMentions, MentionsAreMarked, MentionsAreThere, NamesHaveAFrame, TypesHaveAFrame, TypingCarriesMarks};
 ghost use Rattle.lb_names.specs.Scopes.{Catalogue};
-ghost use Rattle.lb_names.specs.Small.{a, b, k, small, table, w, x};
+ghost use Rattle.lb_names.specs.Small.{a, k, q, small, table, w, x};
 ghost use Rattle.lb_names.specs.StatementMarks.{marks_of};
 ghost use Rattle.lb_names.specs.Statements.{mask_types_refused, names_refused, permission_names_refused, permission_qualified, permission_types_refused, types_refused};
-ghost use Rattle.lb_names.specs.Used.{used_items};
 
 /// What a statement mentions of the catalogue is what its names mention, in text order.
 pub fn mentions_are_marked()
@@ -62,6 +61,7 @@ pub fn worked_names()
     ensures column_before_targets { names_refused small e.column_before_targets ≡ Some (Unknown x) }
     ensures target_twice { names_refused small e.target_twice ≡ Some (Exists a) }
     ensures no_label_text { names_refused small e.no_label_text ≡ Some (BadLabel 0) }
+    ensures policy_before_text { names_refused small e.policy_before_text ≡ Some (Unknown q) }
     ensures column_of_where { names_refused small e.column_of_where ≡ Some (Unknown x) }
     ensures target_by_its_alias { names_refused small e.target_by_its_alias ≡ Some (Unknown k) }
     ensures output_name_inside { names_refused small e.output_name_inside ≡ Some (Unknown x) }
@@ -77,9 +77,6 @@ pub fn worked_names()
     ensures stored_star_beside_group { permission_types_refused small (table k) e.stored_star_beside_group ≡ Some (Types 2) }
     ensures count_in_mask { mask_types_refused small (table k) a e.count_in_mask ≡ Some (Types 6) }
     ensures qualified { permission_qualified small (table k) e.unqualified ≡ e.with_its_names }
-    ensures two_then_none { used_items small (marks_of e.two_then_none) ≡ e.used w [] ∷ e.used k (a ∷ b ∷ []) ∷ e.used k [] ∷ [] }
-    ensures one_then_one { used_items small (marks_of e.one_then_one) ≡ e.used w [] ∷ e.used k (a ∷ []) ∷ e.used k (b ∷ []) ∷ [] }
-    ensures all_columns { used_items small (marks_of e.all_columns) ≡ e.used w [] ∷ record (e.used k []) { everything = true } ∷ [] }
     ensures too_many_outputs { types_refused small e.too_many_outputs ≡ Some (Types 0) }
     ensures by_a_label { types_refused small (stmts.Select e.by_a_label) ≡ Some (Types 3) }
     ensures by_another_column { types_refused small (stmts.Select e.by_another_column) ≡ Some (Types 2) }

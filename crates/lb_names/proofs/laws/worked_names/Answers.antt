@@ -13,6 +13,9 @@ returns-clause-target_twice c = computed.target_twice
 pub returns-clause-no_label_text : goal.returns-clause-no_label_text
 returns-clause-no_label_text c = computed.no_label_text
 
+pub returns-clause-policy_before_text : goal.returns-clause-policy_before_text
+returns-clause-policy_before_text c = computed.policy_before_text
+
 pub returns-clause-column_of_where : goal.returns-clause-column_of_where
 returns-clause-column_of_where c = computed.column_of_where
 
@@ -57,15 +60,6 @@ returns-clause-count_in_mask c = computed.count_in_mask
 
 pub returns-clause-qualified : goal.returns-clause-qualified
 returns-clause-qualified c = computed.qualified
-
-pub returns-clause-two_then_none : goal.returns-clause-two_then_none
-returns-clause-two_then_none c = computed.two_then_none
-
-pub returns-clause-one_then_one : goal.returns-clause-one_then_one
-returns-clause-one_then_one c = computed.one_then_one
-
-pub returns-clause-all_columns : goal.returns-clause-all_columns
-returns-clause-all_columns c = computed.all_columns
 
 pub returns-clause-too_many_outputs : goal.returns-clause-too_many_outputs
 returns-clause-too_many_outputs c = computed.too_many_outputs

@@ -1,0 +1,11 @@
+mod Steps
+mod Putting
+mod Deleting
+mod Stored
+mod Columns
+mod NewRows
+mod KeyTests
+mod Written
+mod Targets
+mod Sessions
+mod Statements

@@ -1,0 +1,67 @@
+-- What is said of whole statements: a write keeps that all tables fit.
+use Rattle.std.specs.Prelude.{ℕ, ℤ, ◌≡◌, List, None}
+use Rattle.std.specs.List.{AllByRecursion}
+use Rattle.lb_base.specs.Days.{IsDay}
+use Rattle.lb_base.specs.declared.key.Key.{Key}
+use Rattle.lb_stmt.specs.declared.write.Insert.{Insert}
+use Rattle.lb_stmt.specs.declared.write.InsertSource.{InsertSource}
+use Rattle.lb_stmt.specs.declared.write.InsertSource.TheVariants as sources
+use Rattle.lb_stmt.specs.declared.write.Stmt.{Stmt}
+use Rattle.lb_stmt.specs.declared.write.Stmt.TheVariants as stmts
+use Rattle.lb_stmt.specs.declared.write.Update.{Update}
+use Rattle.lb_cat.specs.declared.cred.Cred.{Cred}
+use Rattle.lb_cat.specs.Catalog.{Cat, table_named}
+use Rattle.lb_names.specs.Scopes.{Catalogue}
+use Rattle.lb_names.specs.Statements.{types_refused}
+use Rattle.lb_rows.specs.Tables.{Tables}
+use Rattle.lb_mean.specs.Answer.{Checks}
+use Rattle.lb_answer.specs.Answer.{answer, insert_answer, update_answer}
+use Rattle.lb_alter.specs.Fits.{CredFits}
+use Rattle.lb_alter.specs.Laws.{AllTablesFit}
+use Rattle.lb_alter.specs.Sound.{IsSound}
+use Rattle.lb_alter.specs.Stored.{Checks as Rules}
+use Rattle.lb_kinds.specs.Days.{days_in, days_in_query, AreDays}
+use Rattle.lb_kinds.specs.Settings.{Knows, MasksFit}
+use Rattle.lb_fits.specs.Laws.{LeavesFit}
+
+-- ---- what a write begins with
+
+-- Where a session writes: a sound catalogue, all of whose tables and masks fit, as names and types know them, labels of the session
+-- that are labels of their policies, and a day of the calendar.
+pub record Begins (rules : Rules) (N : Catalogue) (C : Cat) (c : Cred) (T : Tables) (day : ℤ) : Type 0 where
+  pub sound : IsSound rules C
+  pub tables : AllTablesFit C T
+  pub masks : (n : List ℕ) → MasksFit N n (table_named C n)
+  pub knows : Knows N C T
+  pub credentials : (ks : List Key) → CredFits ks C c
+  pub is_day : IsDay day
+
+-- the DATE literals of VALUES or of the query are days
+abbrev pub SourceHasDays : InsertSource → Type 0
+SourceHasDays (sources.Rows rows) = AllByRecursion (λ es. AllByRecursion (λ e. AreDays (days_in e)) es) rows
+SourceHasDays (sources.Query s) = AreDays (days_in_query s.query)
+
+-- so are those of the values that a statement writes
+abbrev pub WritesDays : Stmt → Type 0
+WritesDays (stmts.Select s) = Unit {0}
+WritesDays (stmts.Insert i) = SourceHasDays i.source
+WritesDays (stmts.Update u) = AllByRecursion (λ a. AreDays (days_in a.value)) u.assignments
+WritesDays (stmts.Delete d) = Unit {0}
+WritesDays (stmts.Change c) = Unit {0}
+
+-- ---- statements
+
+-- an UPDATE whose types are not refused keeps that all tables fit
+abbrev pub UpdatesFit : Type 0
+UpdatesFit = (rules : Rules) (N : Catalogue) (checks : Checks) (C : Cat) (c : Cred) (T : Tables) (day : ℤ) (u : Update)
+    → Begins rules N C c T day → WritesDays (stmts.Update u) → types_refused N (stmts.Update u) ≡ None → LeavesFit C T (update_answer C c T day checks u)
+
+-- an INSERT whose types are not refused keeps it
+abbrev pub InsertsFit : Type 0
+InsertsFit = (rules : Rules) (N : Catalogue) (checks : Checks) (C : Cat) (c : Cred) (T : Tables) (day : ℤ) (i : Insert)
+    → Begins rules N C c T day → WritesDays (stmts.Insert i) → types_refused N (stmts.Insert i) ≡ None → LeavesFit C T (insert_answer C c T day checks i)
+
+-- each query and each write whose types are not refused keeps it
+abbrev pub WritesFit : Type 0
+WritesFit = (rules : Rules) (N : Catalogue) (checks : Checks) (C : Cat) (c : Cred) (T : Tables) (day : ℤ) (s : Stmt)
+    → Begins rules N C c T day → WritesDays s → types_refused N s ≡ None → LeavesFit C T (answer checks C c T day s)
