@@ -11,6 +11,7 @@ use Rattle.lb_label.specs.declared.kind.ComponentKind.TheVariants.{Set, Array, T
 use Rattle.lb_label.specs.Component.{Definition, numbers}
 use Rattle.lb_label.specs.Label.{fits_in, IsLabel}
 use Rattle.lb_label.specs.LabelText.{is_named}
+use Rattle.lb_label.proofs.Parts.{part_fits}
 use Rattle.lb_stmt.specs.declared.change.LabelName.{LabelName}
 use Rattle.lb_stmt.specs.declared.change.LabelPart.{LabelPart}
 use Rattle.lb_cat.specs.declared.catalog.ColumnRec.{ColumnRec}
@@ -22,7 +23,7 @@ use Rattle.lb_rows.specs.Lists.{without}
 use Rattle.lb_cat.specs.Catalog.{Cat, Table, Policy, User, policy_named, label_named, is_label, is_policy, is_among, put_policy}
 use Rattle.lb_cat.specs.Holdings.{is_same_name, no_holding, holds_label}
 use Rattle.lb_names.specs.Mentions.{Mentions, table, policy, label, is_label_mention}
-use Rattle.lb_alter.specs.ChangeLabel.{user_name, parts_refusal, part_for, part_of, listed_for, label_parts, create_label, holds, is_secured_with, secures_with, drop_label}
+use Rattle.lb_alter.specs.ChangeLabel.{user_name, parts_refusal, part_named, listed_for, label_parts, create_label, holds, is_secured_with, secures_with, drop_label}
 use Rattle.lb_alter.specs.ChangePolicy.{has_policy, table_name}
 use Rattle.lb_alter.specs.ChangeTable.{has_label, policy_of}
 use Rattle.lb_alter.specs.Labelled.{IsPolicyLabel, ColumnBelongs, LabelsBelong, HoldsLabels, HeldLabelsAreThere, StandsUnder}
@@ -77,52 +78,7 @@ module _ {R : Type 0} (name : R → List ℕ) where
 
 -- ---- parts of labels
 
-range_below : (a n : ℕ) → AllByRecursion (λ (e : ℕ). e < a + n) (range_with_len a n)
-range_below a zero = tt
-range_below a (suc n) = (omega arith, all_follow (λ (e : ℕ). e < (a + 1) + n) (λ (e : ℕ). e < a + suc n) (λ e h. omega (arith, h)) (range_with_len (a + 1) n) (range_below (a + 1) n))
-
-bits_sum : (test : ℕ → Bool) (a s n : ℕ) → fold (λ t e. t + 2 ^ e) s (filter test (range_with_len a n)) + 2 ^ a ≤ s + 2 ^ (a + n)
-bits_sum test a s zero = let e : 2 ^ (a + 0) ≡ 2 ^ a = ap (λ (k : ℕ). 2 ^ k) (plus_none a) in omega (arith, e)
-  where
-    plus_none : (k : ℕ) → k + 0 ≡ k
-    plus_none k = omega arith
-bits_sum test a s (suc n) =
-    elim (test a) as (λ b. fold (λ t e. t + 2 ^ e) s (cond b (a ∷ filter test (range_with_len (a + 1) n)) (filter test (range_with_len (a + 1) n))) + 2 ^ a ≤ s + 2 ^ (a + suc n)) [
-      | true ↦ let h : fold (λ t e. t + 2 ^ e) (s + 2 ^ a) (filter test (range_with_len (a + 1) n)) + 2 ^ (a + 1) ≤ (s + 2 ^ a) + 2 ^ ((a + 1) + n) = bits_sum test (a + 1) (s + 2 ^ a) n in omega (arith, h, doubled a, moved a n)
-      | false ↦ let h : fold (λ t e. t + 2 ^ e) s (filter test (range_with_len (a + 1) n)) + 2 ^ (a + 1) ≤ s + 2 ^ ((a + 1) + n) = bits_sum test (a + 1) s n in omega (arith, h, doubled a, moved a n)
-    ]
-  where
-    one_more : (k : ℕ) → k + 1 ≡ suc k
-    one_more k = omega arith
-
-    doubled : (k : ℕ) → 2 ^ (k + 1) ≡ 2 * 2 ^ k
-    doubled k = ap (λ (j : ℕ). 2 ^ j) (one_more k) ∙ pow-succ' 2 k
-
-    moved_by : (k j : ℕ) → (k + 1) + j ≡ k + suc j
-    moved_by k j = omega arith
-
-    moved : (k j : ℕ) → 2 ^ ((k + 1) + j) ≡ 2 ^ (k + suc j)
-    moved k j = ap (λ (i : ℕ). 2 ^ i) (moved_by k j)
-
-bits_fit : (test : ℕ → Bool) (n : ℕ) → sum_by (λ e. 2 ^ e) (filter test (numbers n)) < 2 ^ n
-bits_fit test n =
-    let h : fold (λ t e. t + 2 ^ e) 0 (filter test (range_with_len 0 n)) + 2 ^ 0 ≤ 0 + 2 ^ (0 + n) = bits_sum test 0 0 n in
-    let e : 2 ^ (0 + n) ≡ 2 ^ n = ap (λ (k : ℕ). 2 ^ k) (none_plus n) in
-    omega (arith, h, e)
-  where
-    none_plus : (k : ℕ) → 0 + k ≡ k
-    none_plus k = omega arith
-
-first_fits : (n : ℕ) (es : List ℕ) → AllByRecursion (λ (e : ℕ). e < 0 + n) es → part_for Array es ≤ n
-first_fits n [] h = omega arith
-first_fits n (e ∷ es) h = let i : e < 0 + n = h.0 in omega (arith, i)
-
-part_fits : (k : ComponentKind) (test : ℕ → Bool) (n : ℕ) → fits_in k n (part_for k (filter test (numbers n)))
-part_fits Array test n = first_fits n (filter test (numbers n)) (all_filter (λ (e : ℕ). e < 0 + n) test (numbers n) (range_below 0 n))
-part_fits Set test n = bits_fit test n
-part_fits Tree test n = bits_fit test n
-
-parts_fit : (C : Cat) (xs : List LabelPart) (ns : List (List ℕ)) (shape : List Definition) → AllZip (StandsUnder C) ns shape → IsLabel shape (map (λ c. part_of c.1 (listed_for xs c.0)) (zip ns shape))
+parts_fit : (C : Cat) (xs : List LabelPart) (ns : List (List ℕ)) (shape : List Definition) → AllZip (StandsUnder C) ns shape → IsLabel shape (map (λ c. part_named c.1 (listed_for xs c.0)) (zip ns shape))
 parts_fit C xs [] [] h = tt
 parts_fit C xs [] (d ∷ ds) h = absurd h
 parts_fit C xs (n ∷ ns) [] h = absurd h

@@ -5,6 +5,7 @@ use Rattle.std.specs.Str.{bytes_eq}
 use Rattle.lb_label.specs.declared.kind.ComponentKind.{ComponentKind}
 use Rattle.lb_label.specs.declared.kind.ComponentKind.TheVariants.{Set, Array, Tree}
 use Rattle.lb_label.specs.Component.{Definition, empty_component, numbers, number_of}
+use Rattle.lb_label.specs.Label.{part_of}
 use Rattle.lb_label.specs.LabelText.{is_named}
 use Rattle.lb_stmt.specs.declared.change.LabelName.{LabelName}
 use Rattle.lb_stmt.specs.declared.change.LabelPart.{LabelPart}
@@ -54,16 +55,9 @@ parts_refusal p before (x ∷ xs) = earliest (part_refusal p before x ∷ parts_
 abbrev pub elements_named : Definition → List (List ℕ) → List ℕ
 elements_named c names = filter (is_named c names) (numbers (length c.elements))
 
--- the number that stands for the elements: in an ARRAY that of its element and 1, in a SET or TREE the sum of their bits
-abbrev pub part_for : ComponentKind → List ℕ → ℕ
-part_for Array [] = 0
-part_for Array (e ∷ es) = e + 1
-part_for Set es = sum_by (λ e. 2 ^ e) es
-part_for Tree es = sum_by (λ e. 2 ^ e) es
-
--- the number that stands for elements of a component, by their texts
-abbrev pub part_of : Definition → List (List ℕ) → ℕ
-part_of c names = part_for c.kind (elements_named c names)
+-- the part that stands for elements of a component, by their texts
+abbrev pub part_named : Definition → List (List ℕ) → ℕ
+part_named c names = part_of c.kind (elements_named c names)
 
 -- the elements of the part, if there is one
 abbrev pub elements_or_none : Option LabelPart → List (List ℕ)
@@ -76,7 +70,7 @@ listed_for xs n = elements_or_none (find (λ x. bytes_eq x.component n) xs)
 
 -- the parts of the label, for each component of the policy in its order
 abbrev pub label_parts : Policy → List LabelPart → List ℕ
-label_parts p xs = map (λ c. part_of c.1 (listed_for xs c.0)) (zip p.components p.shape)
+label_parts p xs = map (λ c. part_named c.1 (listed_for xs c.0)) (zip p.components p.shape)
 
 -- CREATE SECURITY LABEL
 abbrev pub create_label : Cat → Tables → List ℕ → LabelName → List LabelPart → OrRefused Changed

@@ -140,7 +140,7 @@ above_kept ps qs down (suc s) e within =
     ] refl
 
 -- the component with an element more
-grown : Definition → List ℕ → Option ℕ → Definition
+pub grown : Definition → List ℕ → Option ℕ → Definition
 grown c text parent = record { kind = c.kind; elements = c.elements ++ text ∷ []; order = c.order ++ length c.elements ∷ []; parents = c.parents ++ parent ∷ [] }
 
 place_in_grown : {X : Type 0} (xs : List X) (y : X) (e : ℕ) → e < length (xs ++ y ∷ []) → (e < length xs) ⊎ (e ≡ length xs)
@@ -167,7 +167,7 @@ rank_new c text parent valid =
     (true_same (length c.elements) (length c.elements) refl)
     ∙ valid.order_length
 
-grown_valid : (c : Definition) (text : List ℕ) (parent : Option ℕ) → IsComponent c → length c.elements < limit c.kind → is_element_text text ≡ true
+pub grown_valid : (c : Definition) (text : List ℕ) (parent : Option ℕ) → IsComponent c → length c.elements < limit c.kind → is_element_text text ≡ true
     → number_of c text ≡ None → IsParent c.kind (length c.elements) parent → IsComponent (grown c text parent)
 unfolding grown
 grown_valid c text parent valid room good fresh under = record {

@@ -1,14 +1,15 @@
 mod Bits
 mod ListLemmas
-mod ComponentLemmas
+pub mod ComponentLemmas
 mod ShapeLemmas
 mod Elements
 mod RuleLemmas
 mod UnderLemmas
 mod LabelLemmas
 mod TextLemmas
-mod NameLemmas
+pub mod NameLemmas
 mod ReadLemmas
 mod PrintLemmas
 mod ReadBackLemmas
 pub mod OneLabel
+pub mod Parts

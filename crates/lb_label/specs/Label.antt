@@ -1,5 +1,5 @@
 -- Labels as lists of elements, and the parts that stand for them.
-use Rattle.std.specs.Prelude.{◌≡◌, ℕ, ◌+◌, ◌^◌, ◌<◌, ◌≤◌, ◌==◌, Bool, List, [], ◌∷◌, length, filter}
+use Rattle.std.specs.Prelude.{◌≡◌, ℕ, ◌+◌, ◌^◌, ◌<◌, ◌≤◌, ◌==◌, Bool, List, [], ◌∷◌, length, filter, sum, map}
 use Rattle.std.specs.Int.{bit_at}
 use Rattle.std.specs.List.{AllZip}
 use Rattle.lb_label.specs.declared.kind.ComponentKind.{ComponentKind}
@@ -34,6 +34,22 @@ abbrev pub label_of : List Definition → List ℕ → List (List ℕ)
 label_of [] parts = []
 label_of (c ∷ shape) [] = []
 label_of (c ∷ shape) (part ∷ parts) = elements_in c part ∷ label_of shape parts
+
+-- the power of two of an element
+abbrev pub bit_of : ℕ → ℕ
+bit_of e = 2 ^ e
+
+-- the part that stands for some elements of a component: in an ARRAY the number of its one element plus one, in a SET or TREE a bit for each
+abbrev pub part_of : ComponentKind → List ℕ → ℕ
+part_of Array [] = 0
+part_of Array (e ∷ es) = e + 1
+part_of Set es = sum (map bit_of es)
+part_of Tree es = sum (map bit_of es)
+
+-- the parts that stand for the elements of a label
+abbrev pub parts_of : List Definition → List (List ℕ) → List ℕ
+parts_of (c ∷ shape) (es ∷ label) = part_of c.kind es ∷ parts_of shape label
+parts_of _ _ = []
 
 -- the parts of a label are told by the elements that they stand for
 abbrev pub PartsAreTold : Type 0

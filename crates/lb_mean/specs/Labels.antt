@@ -1,15 +1,13 @@
 -- Labels in evaluation: which labels a session can read and write, labels from texts and names, and texts of labels.
-use Rattle.std.specs.Prelude.{ℕ, ◌+◌, ◌^◌, Bool, true, List, [], ◌∷◌, filter, sum, map, Option, None, Some, is_none, Result, Ok, Err}
+use Rattle.std.specs.Prelude.{ℕ, Bool, true, List, [], ◌∷◌, filter, Option, None, Some, is_none, Result, Ok, Err}
 use Rattle.lb_base.specs.declared.rule.Rule.{Rule}
 use Rattle.lb_base.specs.declared.value.Value.{Value}
 use Rattle.lb_base.specs.declared.value.Value.TheVariants.{Null, Text, Label}
 use Rattle.lb_label.specs.declared.access.Fail.{Fail}
 use Rattle.lb_label.specs.declared.kind.Access.TheVariants.{Read, Write}
-use Rattle.lb_label.specs.declared.kind.ComponentKind.{ComponentKind}
-use Rattle.lb_label.specs.declared.kind.ComponentKind.TheVariants.{Set, Array, Tree}
 use Rattle.lb_label.specs.Component.{Definition}
 use Rattle.lb_label.specs.Exemption.{is_exempt}
-use Rattle.lb_label.specs.Label.{label_of}
+use Rattle.lb_label.specs.Label.{label_of, parts_of}
 use Rattle.lb_label.specs.LabelText.{label_text, read_label as label_read}
 use Rattle.lb_label.specs.Rules.{failing_rule, failure}
 use Rattle.lb_cat.specs.declared.catalog.LabelRec.{LabelRec}
@@ -41,22 +39,6 @@ is_readable c (Some p) (Label parts) = is_none (read_failure c p parts.items)
 is_readable c _ _ = true
 
 -- ---- labels from texts and names
-
--- the power of two of an element
-abbrev pub bit_of : ℕ → ℕ
-bit_of e = 2 ^ e
-
--- the part that stands for some elements of a component: in an ARRAY the number of its one element plus one, in a SET or TREE a bit for each
-abbrev pub part_of : ComponentKind → List ℕ → ℕ
-part_of Array [] = 0
-part_of Array (e ∷ es) = e + 1
-part_of Set es = sum (map bit_of es)
-part_of Tree es = sum (map bit_of es)
-
--- the parts that stand for the elements of a label
-abbrev pub parts_of : List Definition → List (List ℕ) → List ℕ
-parts_of (c ∷ shape) (es ∷ label) = part_of c.kind es ∷ parts_of shape label
-parts_of _ _ = []
 
 -- the label with these elements; a text that is no label text is refused before
 abbrev pub label_or_null : List Definition → Result (List (List ℕ)) ℕ → Value
