@@ -140,7 +140,7 @@ above_kept ps qs down (suc s) e within =
     ] refl
 
 -- the component with an element more
-pub grown : Definition → List ℕ → Option ℕ → Definition
+unfoldable pub grown : Definition → List ℕ → Option ℕ → Definition
 grown c text parent = record { kind = c.kind; elements = c.elements ++ text ∷ []; order = c.order ++ length c.elements ∷ []; parents = c.parents ++ parent ∷ [] }
 
 place_in_grown : {X : Type 0} (xs : List X) (y : X) (e : ℕ) → e < length (xs ++ y ∷ []) → (e < length xs) ⊎ (e ≡ length xs)
