@@ -4,3 +4,4 @@ pub mod Stamps
 pub mod There
 pub mod Lasting
 pub mod Agreeing
+pub mod Steady
