@@ -19,3 +19,5 @@ pub mod FoundColumns
 pub mod QualifiedForms
 pub mod Stays
 pub mod Computed
+pub mod QualifiedMarks
+pub mod GrownNames
