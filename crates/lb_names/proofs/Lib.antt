@@ -21,3 +21,5 @@ pub mod Stays
 pub mod Computed
 pub mod QualifiedMarks
 pub mod GrownNames
+pub mod GrownLists
+pub mod GrownStars
