@@ -23,3 +23,4 @@ pub mod QualifiedMarks
 pub mod GrownNames
 pub mod GrownLists
 pub mod GrownStars
+pub mod GrownSteps
