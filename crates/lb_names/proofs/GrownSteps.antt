@@ -32,7 +32,7 @@ use Rattle.lb_names.proofs.GrownNames.{column_stays}
 use Rattle.lb_names.proofs.GrownLists as l
 use Rattle.lb_names.proofs.GrownStars.{free_grows, groups_clear, items_clear, called_clear, star_keep, columns_grow, columns_below}
 
-only_keep : {A : Type 0} (a b : Bool) (at : ℕ) (x : A × ℕ) → (a ≡ true → b ≡ true) → l.Implies (only_if a at x) (only_if b at x)
+pub only_keep : {A : Type 0} (a b : Bool) (at : ℕ) (x : A × ℕ) → (a ≡ true → b ≡ true) → l.Implies (only_if a at x) (only_if b at x)
 only_keep true b at x h = λ i. only_if (h refl i) at x
 only_keep false b at x h = tt
 

@@ -24,3 +24,5 @@ pub mod GrownNames
 pub mod GrownLists
 pub mod GrownStars
 pub mod GrownSteps
+pub mod GrownTypes
+pub mod GrownRules
