@@ -5,3 +5,4 @@ pub mod There
 pub mod Lasting
 pub mod Agreeing
 pub mod Steady
+pub mod Wider

@@ -1,14 +1,14 @@
 -- That the rules for stored conditions are steady, fact by fact.
-use Rattle.std.specs.Prelude.{ℕ, ◌≡◌, List, Some}
+use Rattle.std.specs.Prelude.{ℕ, ◌≡◌, true, List, Some}
 use Rattle.std.specs.List.{AllByRecursion}
 use Rattle.lb_tree.specs.declared.query.Cond.{Cond}
 use Rattle.lb_tree.specs.declared.query.Expr.{Expr}
 use Rattle.lb_tree.specs.declared.query.Tab.{Tab}
-use Rattle.lb_cat.specs.Catalog.{Cat, Policy, policy_named, put_policy}
+use Rattle.lb_cat.specs.Catalog.{Cat, Table, Policy, table_named, policy_named, put_table, put_policy}
 use Rattle.lb_names.specs.Mentions.{Mentions, in_cond, in_expr, tables_in, policies_in}
 use Rattle.lb_alter.specs.Frame.{SameOn}
 use Rattle.lb_alter.specs.Named.{HasTable, HasPolicy, HasFoldedNames}
-use Rattle.lb_alter.specs.Steady.{stored_deps, IsRelabelled, StaysNamed}
+use Rattle.lb_alter.specs.Steady.{stored_deps, IsWider, IsRelabelled, StaysNamed}
 use Rattle.lb_alter.specs.Stored.{Checks}
 use Rattle.lb_alter.specs.Valid.{KeepsRules, KeepsMaskRules}
 
@@ -48,3 +48,11 @@ module _ (K : Checks) where
   -- so does a CASE
   abbrev pub OutlastsLabelsInMask : Type 0
   OutlastsLabelsInMask = (C : Cat) (p q : Policy) (on : Tab) (column : List ℕ) (e : Expr) → policy_named C p.name ≡ Some p → IsRelabelled p q → AllByRecursion (StaysNamed p q) (in_expr e) → KeepsMaskRules K C on column e → KeepsMaskRules K (put_policy q C) on column e
+
+  -- a qualified condition keeps the rules when a table gets wider
+  abbrev pub OutlastsColumns : Type 0
+  OutlastsColumns = (C : Cat) (t u : Table) (on : Tab) (c : Cond) → table_named C t.name ≡ Some t → IsWider t u → K.are_qualified c ≡ true → KeepsRules K C on c → KeepsRules K (put_table u C) on c
+
+  -- so does a qualified CASE
+  abbrev pub OutlastsColumnsInMask : Type 0
+  OutlastsColumnsInMask = (C : Cat) (t u : Table) (on : Tab) (column : List ℕ) (e : Expr) → table_named C t.name ≡ Some t → IsWider t u → K.are_qualified_in e ≡ true → KeepsMaskRules K C on column e → KeepsMaskRules K (put_table u C) on column e

@@ -11,7 +11,7 @@ ghost use Rattle.lb_journal.specs.Roots.{root};
 ghost use Rattle.lb_journal.specs.Engine.{RightGives};
 ghost use Rattle.lb_journal.specs.Lasting.{AnswerStays, RightLasts};
 ghost use Rattle.lb_journal.specs.Rules.{stored_rules};
-ghost use Rattle.lb_journal.specs.Steadiness.{KeepsMaskMentions, KeepsMentions, MaskMentionsStand, MentionsStand, OutlastsLabels, OutlastsLabelsInMask, ReadsNoMore, ReadsNoMoreInMask};
+ghost use Rattle.lb_journal.specs.Steadiness.{KeepsMaskMentions, KeepsMentions, MaskMentionsStand, MentionsStand, OutlastsColumns, OutlastsColumnsInMask, OutlastsLabels, OutlastsLabelsInMask, ReadsNoMore, ReadsNoMoreInMask};
 ghost use Rattle.lb_journal.specs.Laws.{AbsentIsZero, HasOneReplay, HasOneReply, SameStampSameRecord, StampsTell};
 
 use crate::engine::Engine;
@@ -54,7 +54,8 @@ pub fn right_plans_last<E: Engine>()
 {}
 
 /// The rules for stored conditions: they read no more than what a condition depends on; the qualified form mentions what the
-/// condition mentions; what is mentioned is there; other labels of a policy break no condition whose labels stay.
+/// condition mentions; what is mentioned is there; other labels of a policy break no condition whose labels stay, and more columns
+/// of a table no condition that is qualified.
 pub fn stored_rules_are_steady()
     ensures reads { ReadsNoMore stored_rules }
     ensures reads_mask { ReadsNoMoreInMask stored_rules }
@@ -64,4 +65,6 @@ pub fn stored_rules_are_steady()
     ensures stands_mask { MaskMentionsStand stored_rules }
     ensures relabels { OutlastsLabels stored_rules }
     ensures relabels_mask { OutlastsLabelsInMask stored_rules }
+    ensures widens { OutlastsColumns stored_rules }
+    ensures widens_mask { OutlastsColumnsInMask stored_rules }
 {}

@@ -79,3 +79,8 @@ pub record ColumnsStay (C : Catalogue) : Type 0 where
 pub record NamesOutlastColumns (C D : Catalogue) : Type 0 where
   pub permission : (tab : Tab) (c : Cond) → IsGrown C D → are_qualified c ≡ true → permission_names_refused C tab c ≡ None → permission_names_refused D tab c ≡ None
   pub mask : (tab : Tab) (e : Expr) → IsGrown C D → are_qualified_in e ≡ true → mask_names_refused C tab e ≡ None → mask_names_refused D tab e ≡ None
+
+-- so do its types
+pub record TypesOutlastColumns (C D : Catalogue) : Type 0 where
+  pub permission : (tab : Tab) (c : Cond) → IsGrown C D → are_qualified c ≡ true → permission_types_refused C tab c ≡ None → permission_types_refused D tab c ≡ None
+  pub mask : (tab : Tab) (column : Name) (e : Expr) → IsGrown C D → are_qualified_in e ≡ true → mask_types_refused C tab column e ≡ None → mask_types_refused D tab column e ≡ None

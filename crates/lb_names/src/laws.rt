@@ -3,7 +3,7 @@ ghost use Rattle.std.specs.Prelude.{◌≡◌, Some, None, [], ◌∷◌, true};
 ghost use Rattle.lb_stmt.specs.declared.write.Stmt.TheVariants as stmts;
 ghost use Rattle.lb_names.specs.declared.refused.Refused.TheVariants.{BadLabel, Exists, Types, Unknown};
 ghost use Rattle.lb_names.specs.Examples as e;
-ghost use Rattle.lb_names.specs.Laws.{ColumnsStay, FormsAreQualified, FormsHaveAFrame, FormsKeepMentions, MentionsAreMarked, MentionsAreThere, NamesHaveAFrame, NamesOutlastColumns, TypesHaveAFrame, TypingCarriesMarks};
+ghost use Rattle.lb_names.specs.Laws.{ColumnsStay, FormsAreQualified, FormsHaveAFrame, FormsKeepMentions, MentionsAreMarked, MentionsAreThere, NamesHaveAFrame, NamesOutlastColumns, TypesHaveAFrame, TypesOutlastColumns, TypingCarriesMarks};
 ghost use Rattle.lb_names.specs.Scopes.{Catalogue};
 ghost use Rattle.lb_names.specs.Small.{a, b, k, small, table, w, x};
 ghost use Rattle.lb_names.specs.StatementMarks.{marks_of};
@@ -58,6 +58,11 @@ pub fn mentions_are_there()
 /// The names of a qualified condition stay unrefused where tables get more columns at their ends.
 pub fn names_outlast_columns()
     ensures { (C D : Catalogue) → NamesOutlastColumns C D }
+{}
+
+/// A qualified condition keeps its types where tables get more columns at their ends that hold no labels.
+pub fn types_outlast_columns()
+    ensures { (C D : Catalogue) → TypesOutlastColumns C D }
 {}
 
 /// Names and types of statements, permissions and masks over a small catalogue, a condition that is qualified, and the columns

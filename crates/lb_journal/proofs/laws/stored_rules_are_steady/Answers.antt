@@ -1,4 +1,5 @@
 use Rattle.lb_journal.proofs.Steady.{reads, reads_mask, mentions, mask_mentions, stands, stands_mask, relabels, relabels_mask}
+use Rattle.lb_journal.proofs.Wider.{widens, widens_mask}
 use Rattle.lb_journal.proofs.laws.stored_rules_are_steady.Goals as goal
 
 pub returns-clause-reads : goal.returns-clause-reads
@@ -24,3 +25,9 @@ returns-clause-relabels c = relabels
 
 pub returns-clause-relabels_mask : goal.returns-clause-relabels_mask
 returns-clause-relabels_mask c = relabels_mask
+
+pub returns-clause-widens : goal.returns-clause-widens
+returns-clause-widens c = widens
+
+pub returns-clause-widens_mask : goal.returns-clause-widens_mask
+returns-clause-widens_mask c = widens_mask
