@@ -1,19 +1,17 @@
 -- Parts that keep their types when tables get more columns.
-use Rattle.std.proofs.Common.{ℕ, ◌≡◌, refl, ap, sym, subst, ◌∙◌, List, [], ◌∷◌, ◌++◌, Bool, true, false, cond, ◌&&◌, ◌||◌, not, Option, Some, None, map, Ok, Err, length, ◌<◌, ◌==◌, suc}
+use Rattle.std.proofs.Common.{ℕ, ◌≡◌, refl, sym, subst, List, [], ◌∷◌, ◌++◌, Bool, true, false, ◌&&◌, ◌||◌, Option, Some, None, map, Ok, Err, ◌<◌, ◌==◌, suc}
 use Rattle.std.proofs.Math.Nat.{lt-suc_self, lt_trans}
-use Rattle.std.specs.Prelude.{Result}
 use Rattle.std.specs.List.{list_any, list_all, AllByRecursion}
 use Rattle.lb_tree.specs.declared.query.Tab.{Tab}
-use Rattle.lb_tree.specs.declared.query.Column.{Column}
 use Rattle.lb_names.specs.declared.place.Seen.{Seen}
 use Rattle.lb_names.specs.declared.place.Spot.{Spot}
 use Rattle.lb_names.specs.declared.place.Group.{Group}
-use Rattle.lb_names.specs.Sights.{Name, correlation, Sight, inside, level_in, at_level, items_in}
+use Rattle.lb_names.specs.Sights.{Name, level_in, at_level, items_in}
 use Rattle.lb_names.specs.Kinds.{Kind, Common, with_kind}
-use Rattle.lb_names.specs.Scopes.{Catalogue, is_some, listed, spot_of, same_spot}
-use Rattle.lb_names.specs.Typed.{Typed, next, ◌>>=◌, only_if}
-use Rattle.lb_names.specs.Places.{Place, filter_place, on_place, is_free, all_free}
-use Rattle.lb_names.specs.Carriers.{Means, Says, Wanted, Shows, Joins, Chains, Arms, Choices, Role, Answers, subquery}
+use Rattle.lb_names.specs.Scopes.{is_some, same_spot}
+use Rattle.lb_names.specs.Typed.{Typed, ◌>>=◌}
+use Rattle.lb_names.specs.Places.{Place, filter_place, on_place}
+use Rattle.lb_names.specs.Carriers.{Means, Says, Wanted, Shows, Joins, Chains, Arms, Choices, Answers, subquery}
 use Rattle.lb_names.specs.Parts.{kind_of_all, kind_of_any, kind_of_arm, kind_of_arms, and_kind, kinds_of_choice, kinds_of_choices, all_typed}
 use Rattle.lb_names.specs.Expressions.{is_total, is_sure, if_any, unless_any}
 use Rattle.lb_names.specs.SelectLists.{outputs_of, joins_typed, chains_typed}

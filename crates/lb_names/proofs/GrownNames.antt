@@ -1,6 +1,5 @@
 -- The names of a qualified condition are not refused when tables get more columns.
 use Rattle.std.proofs.Common.{◌≡◌, refl, ap, sym, subst, ◌∙◌, List, [], ◌∷◌, ◌++◌, Bool, true, false, cond, Option, Some, None, Ok, Err}
-use Rattle.std.specs.Prelude.{find}
 use Rattle.std.specs.Str.{bytes_eq}
 use Rattle.lb_tree.specs.declared.query.Atom.{Atom}
 use Rattle.lb_tree.specs.declared.query.Atom.TheVariants as atoms
@@ -15,7 +14,7 @@ use Rattle.lb_names.specs.Sights.{Name, correlation, Sight}
 use Rattle.lb_names.specs.SortNames.{or_else}
 use Rattle.lb_names.specs.Marks.{Mark, enter, item, column, star, call, Marks, cond_marks, expr_marks}
 use Rattle.lb_names.specs.StatementMarks.{over, permission_marks, mask_marks}
-use Rattle.lb_names.specs.Scopes.{Field, Catalogue, Found, Resolved, is_some, listed, field_named, columns_of, found_in, column_of, qualified, unqualified, resolved_as, resolve}
+use Rattle.lb_names.specs.Scopes.{Field, Catalogue, Found, Resolved, is_some, listed, field_named, columns_of, found_in, column_of, qualified, resolved_as, resolve}
 use Rattle.lb_names.specs.Passes.{first, is_taken, refusal_if, item_refusal, unresolved, unless_known, column_refusal, call_refusal, call_refusal_of, fault, text_refusal, text_refusal_of, passes}
 use Rattle.lb_names.specs.Statements.{permission_names_refused, mask_names_refused}
 use Rattle.lb_names.specs.Qualified.{has_correlation, are_qualified, are_qualified_in}

@@ -1,5 +1,5 @@
 -- A qualified condition or CASE keeps its types when tables get more columns.
-use Rattle.std.proofs.Common.{◌≡◌, refl, ap, subst, ◌∙◌, List, [], Bool, true, false, not, ◌&&◌, ◌||◌, Option, Some, None, Ok, Err}
+use Rattle.std.proofs.Common.{◌≡◌, refl, ap, ◌∙◌, [], true, not, ◌&&◌, Option, Some, None, Ok, Err}
 use Rattle.std.specs.List.{list_any}
 use Rattle.lb_tree.specs.declared.query.Tab.{Tab}
 use Rattle.lb_tree.specs.declared.query.Cond.{Cond}

@@ -1,5 +1,5 @@
 -- What stands in a `*` and in GROUP BY, when tables get more columns.
-use Rattle.std.proofs.Common.{ℕ, ◌≡◌, refl, ap, sym, subst, ◌∙◌, List, [], ◌∷◌, ◌++◌, Bool, true, false, cond, ◌&&◌, ◌||◌, not, Option, Some, None, map, Ok, Err, ◌<◌, ◌==◌, if◌then◌else◌, arith}
+use Rattle.std.proofs.Common.{ℕ, ◌≡◌, refl, sym, subst, ◌∙◌, List, [], ◌∷◌, ◌++◌, Bool, true, false, cond, ◌&&◌, ◌||◌, not, Option, Some, None, map, Ok, Err, ◌<◌, ◌==◌, arith}
 use Rattle.std.specs.List.{list_any, list_all, flat_map, AllByRecursion}
 use Rattle.std.specs.Str.{bytes_eq}
 use Rattle.lb_tree.specs.declared.query.Tab.{Tab}
@@ -7,13 +7,13 @@ use Rattle.lb_tree.specs.declared.query.Column.{Column}
 use Rattle.lb_names.specs.declared.place.Seen.{Seen}
 use Rattle.lb_names.specs.declared.place.Spot.{Spot}
 use Rattle.lb_names.specs.declared.place.Group.{Group}
-use Rattle.lb_names.specs.Sights.{Name, correlation, Sight, inside, level_in, at_level, items_in}
+use Rattle.lb_names.specs.Sights.{Name, correlation, at_level}
 use Rattle.lb_names.specs.Kinds.{Kind, is_label}
-use Rattle.lb_names.specs.Scopes.{Field, Catalogue, Resolved, Found, field_named, columns_of, found_in, column_of, qualified, resolved_as, resolve, is_some, listed, spot_of, spots, same_spot}
-use Rattle.lb_names.specs.Typed.{Typed, next, only_if}
+use Rattle.lb_names.specs.Scopes.{Field, Catalogue, Resolved, field_named, columns_of, found_in, column_of, qualified, resolved_as, resolve, is_some, spot_of, spots, same_spot}
+use Rattle.lb_names.specs.Typed.{next, only_if}
 use Rattle.lb_names.specs.Places.{Place, is_in_group, is_free, all_free_of, all_free}
 use Rattle.lb_names.specs.SelectLists.{kinds_of_item, column_kinds, fit, star_fits, star_outputs, called}
-use Rattle.lb_names.specs.Typing.{is_listed, group_of}
+use Rattle.lb_names.specs.Typing.{is_listed}
 use Rattle.lb_names.specs.Qualified.{has_correlation}
 use Rattle.lb_names.specs.Growing.{is_label_field, IsLonger, IsGrown}
 use Rattle.lb_names.proofs.QualifiedMarks.{split}

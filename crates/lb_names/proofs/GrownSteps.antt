@@ -1,6 +1,6 @@
 -- Nodes whose parts keep their types when tables get more columns keep theirs.
-use Rattle.std.proofs.Common.{ℕ, ◌≡◌, refl, ap, sym, subst, ◌∙◌, List, [], ◌∷◌, Bool, true, false, ◌&&◌, ◌||◌, if◌then◌else◌, Option, None, map, Ok, Err}
-use Rattle.std.specs.List.{list_all, flat_map, AllByRecursion}
+use Rattle.std.proofs.Common.{ℕ, ◌≡◌, refl, ap, sym, subst, ◌∙◌, List, [], ◌∷◌, Bool, true, false, ◌&&◌, ◌||◌, if◌then◌else◌, Option, map, Ok, Err}
+use Rattle.std.specs.List.{list_all}
 use Rattle.lb_tree.specs.declared.query.Comparison.{Comparison}
 use Rattle.lb_tree.specs.declared.query.Aggregate.{Aggregate}
 use Rattle.lb_tree.specs.declared.query.Function.{Function}
@@ -10,16 +10,15 @@ use Rattle.lb_tree.specs.declared.query.Column.{Column}
 use Rattle.lb_tree.specs.declared.query.Tab.{Tab}
 use Rattle.lb_tree.specs.declared.query.Cond.TheOpen as layers
 use Rattle.lb_tree.specs.Folds.{Layer}
-use Rattle.lb_names.specs.declared.place.Spot.{Spot}
 use Rattle.lb_names.specs.declared.place.Group.{Group}
 use Rattle.lb_names.specs.Sights.{Name, calls_of, inside, level_in}
 use Rattle.lb_names.specs.Marks.{Mark, enter, item, column, star, call, Marks, tables_of}
-use Rattle.lb_names.specs.Kinds.{Kind, one, null, integer, text, with_kind, both, aggregated}
-use Rattle.lb_names.specs.Scopes.{Catalogue, Resolved, resolve, spots, spot_of}
+use Rattle.lb_names.specs.Kinds.{Kind, one, null, integer, text, both, aggregated}
+use Rattle.lb_names.specs.Scopes.{Catalogue, Resolved, resolve, spot_of}
 use Rattle.lb_names.specs.Passes.{is_at, is_own, all_own}
 use Rattle.lb_names.specs.Typed.{Typed, next, ◌>>=◌, only_if, one_of}
 use Rattle.lb_names.specs.Places.{Place, in_aggregate, filter_place, having_place, shown_place, is_free}
-use Rattle.lb_names.specs.Carriers.{Means, Says, Wanted, Shows, Chains, Arms, Choices, Role, Answers, typing, typing_marks, chain_marked, subquery}
+use Rattle.lb_names.specs.Carriers.{Means, Says, Shows, Chains, Arms, Choices, Answers, typing, chain_marked, subquery}
 use Rattle.lb_names.specs.Parts.{kind_of_two, kind_of_three, kind_with_all, kind_of_results, kinds_of_match}
 use Rattle.lb_names.specs.Expressions.{one_kind, plain_kind, kind_found, is_label_of, atom_kind, case_kind, plain_results, match_kind_of, number_kind, substr_kind, substr_kind_of, function_kind, apply_kind, expr_step}
 use Rattle.lb_names.specs.Conditions.{of_plain, compared, first_kind, compare_typed, in_list_typed, between_typed, cond_step}
