@@ -26,3 +26,4 @@ pub mod GrownStars
 pub mod GrownSteps
 pub mod GrownTypes
 pub mod GrownRules
+pub mod FormMarks
