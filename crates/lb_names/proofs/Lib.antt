@@ -27,3 +27,6 @@ pub mod GrownSteps
 pub mod GrownTypes
 pub mod GrownRules
 pub mod FormMarks
+pub mod Apart
+pub mod ApartMarks
+pub mod FormNames
