@@ -1,5 +1,5 @@
 -- Where no FROM item is refused, each column's items in sight have different correlation names. tools/names-inductions writes this file.
-use Rattle.std.proofs.Common.{ℕ, ◌≡◌, refl, ap, sym, subst, ◌∙◌, List, [], ◌∷◌, ◌++◌, Bool, Option, Some, None, map}
+use Rattle.std.proofs.Common.{ap, sym, subst, List, [], ◌∷◌, ◌++◌, Bool, Option, Some, None, map}
 use Rattle.lb_tree.specs.declared.query.Cond.{Cond}
 use Rattle.lb_tree.specs.declared.query.Expr.{Expr}
 use Rattle.lb_tree.specs.declared.query.Item.{Item}
@@ -12,15 +12,13 @@ use Rattle.lb_tree.specs.declared.query.Signed.{Signed}
 use Rattle.lb_tree.specs.declared.query.Atom.{Atom}
 use Rattle.lb_tree.specs.declared.query.Atom.TheVariants as atoms
 use Rattle.lb_tree.specs.declared.query.Column.{Column}
-use Rattle.lb_tree.specs.declared.query.Tab.{Tab}
 use Rattle.lb_tree.specs.declared.query.Cond.TheOpen as layers
 use Rattle.lb_tree.specs.declared.query.Cond.TheViews.{roll-Cond, roll-Expr, roll-Item, roll-Join, roll-Arm, roll-Chain, roll-Choice, roll-Query, roll-Signed}
-use Rattle.lb_tree.specs.declared.query.Cond.TheFolds.{map-Cond, map-Expr, map-Item, map-Join, map-Arm, map-Chain, map-Choice, map-Query, map-Signed, ind-Cond, ind-Expr, ind-Chain, ind-Query}
-use Rattle.lb_tree.specs.Folds.{Written, cond_of, cond_layer, expr_of, expr_layer, item_of, item_layer, join_of, join_layer, arm_of, arm_layer, chain_of, chain_layer, choice_of, choice_layer, query_of, query_layer, signed_of, signed_layer}
+use Rattle.lb_tree.specs.declared.query.Cond.TheFolds.{map-Cond, map-Expr, map-Item, map-Join, map-Arm, map-Chain, map-Choice, map-Query, map-Signed, ind-Cond, ind-Expr}
+use Rattle.lb_tree.specs.Folds.{Written}
 use Rattle.lb_tree.proofs.Opens.{cond_roll, expr_roll, item_roll, join_roll, arm_roll, chain_roll, choice_roll, query_roll, signed_roll}
-use Rattle.lb_names.specs.declared.place.Seen.{Seen}
-use Rattle.lb_names.specs.Sights.{Name, calls_of, items_in, Sight, inside}
-use Rattle.lb_names.specs.Marks.{enter, column, Marks, Marked, marked, marking, mark_steps, of_each, tables_of, chains_marks, atom_marks}
+use Rattle.lb_names.specs.Sights.{calls_of, items_in, Sight, inside}
+use Rattle.lb_names.specs.Marks.{enter, column, Marked, marked, marking, mark_steps, of_each, tables_of, chains_marks, atom_marks}
 use Rattle.lb_names.specs.Scopes.{Catalogue}
 use Rattle.lb_names.proofs.Apart as apart
 use Rattle.lb_names.proofs.Mentioned.{m_cond, m_expr, m_item, m_join, m_arm, m_chain, m_choice, m_query, m_signed}

@@ -1,5 +1,5 @@
 -- The names of a stored condition's qualified form are not refused, where those of the condition are not.
-use Rattle.std.proofs.Common.{◌≡◌, refl, ap, sym, subst, ◌∙◌, List, [], ◌∷◌, Bool, true, false, cond, ◌||◌, Option, Some, None, Ok, Err}
+use Rattle.std.proofs.Common.{◌≡◌, refl, ap, sym, subst, ◌∙◌, List, [], ◌∷◌, true, false, cond, ◌||◌, Option, Some, None, Ok, Err}
 use Rattle.std.specs.Str.{bytes_eq}
 use Rattle.std.proofs.lemmas.Slice.Eq.{bytes_eq-Decides}
 use Rattle.lb_tree.specs.declared.query.Column.{Column}
@@ -12,7 +12,7 @@ use Rattle.lb_names.specs.Sights.{Name, correlation, Sight}
 use Rattle.lb_names.specs.SortNames.{or_else}
 use Rattle.lb_names.specs.Marks.{Mark, enter, item, column, star, call, Marks, cond_marks, expr_marks}
 use Rattle.lb_names.specs.StatementMarks.{over, permission_marks, mask_marks}
-use Rattle.lb_names.specs.Scopes.{Field, Catalogue, Found, Resolved, listed, field_named, columns_of, found_in, column_of, qualified, resolve}
+use Rattle.lb_names.specs.Scopes.{Field, Catalogue, Resolved, listed, field_named, columns_of, found_in, column_of, qualified, resolve}
 use Rattle.lb_names.specs.Passes.{first, is_called, item_refusal, unresolved, unless_known, column_refusal, call_refusal, text_refusal, passes}
 use Rattle.lb_names.specs.Qualify.{by_item, with_item, qualified_cond, qualified_expr}
 use Rattle.lb_names.specs.Statements.{permission_names_refused, permission_qualified, mask_names_refused, mask_qualified}

@@ -84,3 +84,8 @@ pub record NamesOutlastColumns (C D : Catalogue) : Type 0 where
 pub record TypesOutlastColumns (C D : Catalogue) : Type 0 where
   pub permission : (tab : Tab) (c : Cond) → IsGrown C D → are_qualified c ≡ true → permission_types_refused C tab c ≡ None → permission_types_refused D tab c ≡ None
   pub mask : (tab : Tab) (column : Name) (e : Expr) → IsGrown C D → are_qualified_in e ≡ true → mask_types_refused C tab column e ≡ None → mask_types_refused D tab column e ≡ None
+
+-- The names of the qualified form are not refused where those of the condition are not, over the table by the same correlation name.
+pub record FormsKeepNames (C : Catalogue) : Type 0 where
+  pub permission : (tab other : Tab) → tab.table ≡ other.table → correlation tab ≡ correlation other → (c : Cond) → permission_names_refused C tab c ≡ None → permission_names_refused C other (permission_qualified C tab c) ≡ None
+  pub mask : (tab other : Tab) → tab.table ≡ other.table → correlation tab ≡ correlation other → (e : Expr) → mask_names_refused C tab e ≡ None → mask_names_refused C other (mask_qualified C tab e) ≡ None
