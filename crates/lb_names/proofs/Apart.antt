@@ -214,7 +214,9 @@ module _ (C : Catalogue) where
   chains_marked (ch ∷ chains) k v g all names w h =
       let joins : Marks = joins_marks v all (names ++ correlation ch.first ∷ []) (ch.first ∷ []) ch.joins in
       let rest : Marks = chains_marks v all (names ++ calls_of (tables_of_chain ch)) chains in
-      let mine : Within all (tables_of_chain ch) = within_front all (tables_of_chain ch) (tables_of chains) w in
-      (tt, both joins rest
-      (joins_marked ch.joins k.0 v g all names (names ++ correlation ch.first ∷ []) (ch.first ∷ []) refl (item_free names v.around ch.first h.0, tt) (mine.0, tt) mine.1 (before joins rest h.1))
-      (chains_marked chains k.1 v g all (names ++ calls_of (tables_of_chain ch)) (within_back all (tables_of_chain ch) (tables_of chains) w) (after joins rest h.1)))
+      let mine : Within all (tables_of_chain ch) = within_front all (tables_of_chain ch) (tables_of chains) w in (
+        tt,
+        both joins rest
+            (joins_marked ch.joins k.0 v g all names (names ++ correlation ch.first ∷ []) (ch.first ∷ []) refl (item_free names v.around ch.first h.0, tt) (mine.0, tt) mine.1 (before joins rest h.1))
+            (chains_marked chains k.1 v g all (names ++ calls_of (tables_of_chain ch)) (within_back all (tables_of_chain ch) (tables_of chains) w) (after joins rest h.1)),
+      )

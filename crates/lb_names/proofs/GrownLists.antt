@@ -1,19 +1,18 @@
 -- Parts that keep their types when tables get more columns.
-use Rattle.std.proofs.Common.{ℕ, ◌≡◌, refl, sym, subst, List, [], ◌∷◌, ◌++◌, Bool, true, false, ◌&&◌, ◌||◌, Option, Some, None, map, Ok, Err, ◌<◌, ◌==◌, suc}
+use Rattle.std.proofs.Common.{◌&&◌, if◌then◌else◌, ℕ, ◌≡◌, refl, sym, subst, List, [], ◌∷◌, ◌++◌, Bool, true, false, Option, Some, None, map, Ok, Err, ◌<◌, ◌==◌, suc}
 use Rattle.std.proofs.Math.Nat.{lt-suc_self, lt_trans}
-use Rattle.std.specs.List.{list_any, list_all, AllByRecursion}
+use Rattle.std.specs.List.{list_any, AllByRecursion}
 use Rattle.lb_tree.specs.declared.query.Tab.{Tab}
 use Rattle.lb_names.specs.declared.place.Seen.{Seen}
 use Rattle.lb_names.specs.declared.place.Spot.{Spot}
 use Rattle.lb_names.specs.declared.place.Group.{Group}
 use Rattle.lb_names.specs.Sights.{Name, level_in, at_level, items_in}
 use Rattle.lb_names.specs.Kinds.{Kind, Common, with_kind}
-use Rattle.lb_names.specs.Scopes.{is_some, same_spot}
-use Rattle.lb_names.specs.Typed.{Typed, ◌>>=◌}
+use Rattle.lb_names.specs.Scopes.{same_spot}
+use Rattle.lb_names.specs.Typed.{Typed, ◌>>=◌, only_if}
 use Rattle.lb_names.specs.Places.{Place, filter_place, on_place}
 use Rattle.lb_names.specs.Carriers.{Means, Says, Wanted, Shows, Joins, Chains, Arms, Choices, Answers, subquery}
 use Rattle.lb_names.specs.Parts.{kind_of_all, kind_of_any, kind_of_arm, kind_of_arms, and_kind, kinds_of_choice, kinds_of_choices, all_typed}
-use Rattle.lb_names.specs.Expressions.{is_total, is_sure, if_any, unless_any}
 use Rattle.lb_names.specs.SelectLists.{outputs_of, joins_typed, chains_typed}
 use Rattle.lb_names.specs.Typing.{maybe_typed}
 
@@ -29,6 +28,18 @@ itself (Err at) = tt
 pub bind : {A B : Type 0} (t u : Typed A) (f h : A × ℕ → Typed B) → Implies t u → ((x : A × ℕ) → Implies (f x) (h x)) → Implies (t >>= f) (u >>= h)
 bind (Ok x) u f h i k = subst (λ z. Implies (f x) (z >>= h)) (sym i) (k x)
 bind (Err at) u f h i k = tt
+
+pub only_keep : {A : Type 0} (a b : Bool) (at : ℕ) (x : A × ℕ) → (a ≡ true → b ≡ true) → Implies (only_if a at x) (only_if b at x)
+only_keep true b at x h = λ i. only_if (h refl i) at x
+only_keep false b at x h = tt
+
+pub if_keep : {A : Type 0} (a b : Bool) (at : ℕ) (t : Typed A) → (a ≡ true → b ≡ true) → Implies (if a then t else Err at) (if b then t else Err at)
+if_keep true b at t h = subst (λ z. Implies t (if z then t else Err at)) (sym (h refl)) (itself t)
+if_keep false b at t h = tt
+
+pub and_keep : (a b c : Bool) → (b ≡ true → c ≡ true) → (a && b) ≡ true → (a && c) ≡ true
+and_keep true b c f h = f h
+and_keep false b c f h = h
 
 -- each group is of the same query, and has the columns that it had
 abbrev pub GroupsGrow : List Group → List Group → Type 0
@@ -144,12 +155,6 @@ maybe_keep (Some m) (Some n) h P hs p g at = h.0 P hs p g at
 maybe_keep None (Some n) h P hs p g at = absurd h
 maybe_keep (Some m) None h P hs p g at = absurd h
 
-pub show_totals : (ms ns : List Shows) → Alls KeepShows ms ns → list_any (λ c. c.total) ms ≡ list_any (λ c. c.total) ns
-show_totals [] [] h = refl
-show_totals (m ∷ ms) (k ∷ ks) h = λ i. h.0.1 i || show_totals ms ks h.1 i
-show_totals [] (k ∷ ks) h = absurd h
-show_totals (m ∷ ms) [] h = absurd h
-
 -- ---- places
 
 raised : (n : ℕ) (seen : List Seen) → SeenBelow n seen → SeenBelow (suc n) seen
@@ -224,71 +229,3 @@ outputs_all (m ∷ ms) (k ∷ ks) h so_far others one grouped distinct e P hs p 
     outputs_bind one _ _ _ _ (h.0.0 one grouped distinct P hs p g c n) (λ x js same. outputs_all ms ks h.1 (so_far ++ x.0) (others ++ js) one grouped distinct (λ w i. e w i ++ same w i) P hs p g c x.1)
 outputs_all [] (k ∷ ks) h so_far others one grouped distinct e P hs p g c n = absurd h
 outputs_all (m ∷ ms) [] h so_far others one grouped distinct e P hs p g c n = absurd h
-
--- ---- aggregates and arithmetic
-
-pub totals_all : (ms ns : List Means) → Alls KeepMeans ms ns → list_any is_total ms ≡ list_any is_total ns
-totals_all [] [] h = refl
-totals_all (m ∷ ms) (k ∷ ks) h = λ i. h.0.1.0 i || totals_all ms ks h.1 i
-totals_all [] (k ∷ ks) h = absurd h
-totals_all (m ∷ ms) [] h = absurd h
-
-pub sures_all : (ms ns : List Means) → Alls KeepMeans ms ns → list_all is_sure ms ≡ list_all is_sure ns
-sures_all [] [] h = refl
-sures_all (m ∷ ms) (k ∷ ks) h = λ i. h.0.1.1 i && sures_all ms ks h.1 i
-sures_all [] (k ∷ ks) h = absurd h
-sures_all (m ∷ ms) [] h = absurd h
-
-pub say_totals : (ms ns : List Says) → Alls KeepSays ms ns → list_any (λ c. c.total) ms ≡ list_any (λ c. c.total) ns
-say_totals [] [] h = refl
-say_totals (m ∷ ms) (k ∷ ks) h = λ i. h.0.1.0 i || say_totals ms ks h.1 i
-say_totals [] (k ∷ ks) h = absurd h
-say_totals (m ∷ ms) [] h = absurd h
-
-pub say_sures : (ms ns : List Says) → Alls KeepSays ms ns → list_all (λ c. c.sure) ms ≡ list_all (λ c. c.sure) ns
-say_sures [] [] h = refl
-say_sures (m ∷ ms) (k ∷ ks) h = λ i. h.0.1.1 i && say_sures ms ks h.1 i
-say_sures [] (k ∷ ks) h = absurd h
-say_sures (m ∷ ms) [] h = absurd h
-
-pub arm_totals : (ms ns : List Arms) → Alls KeepArms ms ns → list_any (λ a. a.when.total || a.result.total) ms ≡ list_any (λ a. a.when.total || a.result.total) ns
-arm_totals [] [] h = refl
-arm_totals (m ∷ ms) (k ∷ ks) h = λ i. (h.0.0.1.0 i || h.0.1.1.0 i) || arm_totals ms ks h.1 i
-arm_totals [] (k ∷ ks) h = absurd h
-arm_totals (m ∷ ms) [] h = absurd h
-
-pub arm_sures : (ms ns : List Arms) → Alls KeepArms ms ns → list_all (λ a. a.when.sure && a.result.sure) ms ≡ list_all (λ a. a.when.sure && a.result.sure) ns
-arm_sures [] [] h = refl
-arm_sures (m ∷ ms) (k ∷ ks) h = λ i. (h.0.0.1.1 i && h.0.1.1.1 i) && arm_sures ms ks h.1 i
-arm_sures [] (k ∷ ks) h = absurd h
-arm_sures (m ∷ ms) [] h = absurd h
-
-pub choice_totals : (ms ns : List Choices) → Alls KeepChoices ms ns → list_any (λ a. a.when.total || a.result.total) ms ≡ list_any (λ a. a.when.total || a.result.total) ns
-choice_totals [] [] h = refl
-choice_totals (m ∷ ms) (k ∷ ks) h = λ i. (h.0.0.1.0 i || h.0.1.1.0 i) || choice_totals ms ks h.1 i
-choice_totals [] (k ∷ ks) h = absurd h
-choice_totals (m ∷ ms) [] h = absurd h
-
-pub choice_sures : (ms ns : List Choices) → Alls KeepChoices ms ns → list_all (λ a. a.when.sure && a.result.sure) ms ≡ list_all (λ a. a.when.sure && a.result.sure) ns
-choice_sures [] [] h = refl
-choice_sures (m ∷ ms) (k ∷ ks) h = λ i. (h.0.0.1.1 i && h.0.1.1.1 i) && choice_sures ms ks h.1 i
-choice_sures [] (k ∷ ks) h = absurd h
-choice_sures (m ∷ ms) [] h = absurd h
-
-pub any_total : (m n : Option Means) → Maybe KeepMeans m n → if_any is_total m ≡ if_any is_total n
-any_total None None h = refl
-any_total (Some m) (Some n) h = h.1.0
-any_total None (Some n) h = absurd h
-any_total (Some m) None h = absurd h
-
-pub any_sure : (m n : Option Means) → Maybe KeepMeans m n → unless_any is_sure m ≡ unless_any is_sure n
-any_sure None None h = refl
-any_sure (Some m) (Some n) h = h.1.1
-any_sure None (Some n) h = absurd h
-any_sure (Some m) None h = absurd h
-
-pub is_some_same : (m n : Option Says) → Maybe KeepSays m n → is_some m ≡ is_some n
-is_some_same None None h = refl
-is_some_same (Some m) (Some n) h = refl
-is_some_same None (Some n) h = absurd h
-is_some_same (Some m) None h = absurd h

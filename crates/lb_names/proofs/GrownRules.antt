@@ -14,7 +14,6 @@ use Rattle.lb_names.specs.Statements.{broken, stored_place, kind_in, kind_wanted
 use Rattle.lb_names.specs.Growing.{IsGrown}
 use Rattle.lb_names.proofs.GrownNames.{field_stays}
 use Rattle.lb_names.proofs.GrownLists as l
-use Rattle.lb_names.proofs.GrownSteps.{only_keep}
 use Rattle.lb_names.proofs.GrownTypes.{grown_cond, grown_expr}
 use Rattle.std.proofs.Math.Nat.{lt-suc_self}
 
@@ -44,4 +43,4 @@ module _ (C D : Catalogue) (g : IsGrown C D) where
   pub mask_types_stay : (tab : Tab) (column : Name) (e : Expr) → are_qualified_in e ≡ true → mask_types_refused C tab column e ≡ None → mask_types_refused D tab column e ≡ None
   mask_types_stay tab column e q h =
       unbroken _ ((means D e).kind (stored_place tab) 0 >>= λ x. only_if (mask_takes D (kind_wanted (columns_of D tab) column) x.0) 0 x)
-      (l.bind _ _ (λ x. only_if (mask_takes C (kind_wanted (columns_of C tab) column) x.0) 0 x) _ ((of_expr e q).0 (stored_place tab) [] (good tab) tt 0) (λ x. only_keep (mask_takes C (kind_wanted (columns_of C tab) column) x.0) (mask_takes D (kind_wanted (columns_of D tab) column) x.0) 0 x (takes_stay tab column x.0 (field_named column (columns_of C tab)) refl))) h
+      (l.bind _ _ (λ x. only_if (mask_takes C (kind_wanted (columns_of C tab) column) x.0) 0 x) _ ((of_expr e q).0 (stored_place tab) [] (good tab) tt 0) (λ x. l.only_keep (mask_takes C (kind_wanted (columns_of C tab) column) x.0) (mask_takes D (kind_wanted (columns_of D tab) column) x.0) 0 x (takes_stay tab column x.0 (field_named column (columns_of C tab)) refl))) h

@@ -16,7 +16,7 @@ use Rattle.lb_names.specs.Marks.{Mark, enter, item, column, star, call, Marks, t
 use Rattle.lb_names.specs.Kinds.{Kind, one, null, integer, text, both, aggregated}
 use Rattle.lb_names.specs.Scopes.{Catalogue, Resolved, resolve, spot_of}
 use Rattle.lb_names.specs.Passes.{is_at, is_own, all_own}
-use Rattle.lb_names.specs.Typed.{Typed, next, ◌>>=◌, only_if, one_of}
+use Rattle.lb_names.specs.Typed.{next, ◌>>=◌, only_if, one_of}
 use Rattle.lb_names.specs.Places.{Place, in_aggregate, filter_place, having_place, shown_place, is_free}
 use Rattle.lb_names.specs.Carriers.{Means, Says, Shows, Chains, Arms, Choices, Answers, typing, chain_marked, subquery}
 use Rattle.lb_names.specs.Parts.{kind_of_two, kind_of_three, kind_with_all, kind_of_results, kinds_of_match}
@@ -29,19 +29,8 @@ use Rattle.lb_names.specs.Growing.{IsGrown}
 use Rattle.lb_names.proofs.QualifiedMarks.{IsWritten, AllWritten, split}
 use Rattle.lb_names.proofs.GrownNames.{column_stays}
 use Rattle.lb_names.proofs.GrownLists as l
+use Rattle.lb_names.proofs.GrownTotals as t
 use Rattle.lb_names.proofs.GrownStars.{free_grows, groups_clear, items_clear, called_clear, star_keep, columns_grow, columns_below}
-
-pub only_keep : {A : Type 0} (a b : Bool) (at : ℕ) (x : A × ℕ) → (a ≡ true → b ≡ true) → l.Implies (only_if a at x) (only_if b at x)
-only_keep true b at x h = λ i. only_if (h refl i) at x
-only_keep false b at x h = tt
-
-if_keep : {A : Type 0} (a b : Bool) (at : ℕ) (t : Typed A) → (a ≡ true → b ≡ true) → l.Implies (if a then t else Err at) (if b then t else Err at)
-if_keep true b at t h = subst (λ z. l.Implies t (if z then t else Err at)) (sym (h refl)) (l.itself t)
-if_keep false b at t h = tt
-
-and_keep : (a b c : Bool) → (b ≡ true → c ≡ true) → (a && b) ≡ true → (a && c) ≡ true
-and_keep true b c f h = f h
-and_keep false b c f h = h
 
 only_both : (b : Bool) (at : ℕ) (ks js : List Kind) (n : ℕ) → l.Outputs false (only_if b at (ks, n)) (only_if b at (js, n))
 only_both true at ks js n = (js, (refl, λ w. absurd cc))
@@ -57,7 +46,7 @@ module _ (C D : Catalogue) (g : IsGrown C D) where
   found_keep : (P : Place) (hs : List Group) → l.GroupsGrow P.groups hs → (c : Column) → has_correlation c ≡ true → (at : ℕ) (r : Resolved) → resolve C P.sight.seen c ≡ r → l.Implies (kind_found P at r) (kind_found (l.with_groups P hs) at (resolve D P.sight.seen c))
   found_keep P hs k c q at (Ok x) e =
       subst (λ z. l.Implies (kind_found P at (Ok x)) (kind_found (l.with_groups P hs) at z)) (sym (column_stays C D g P.sight.seen c x q e))
-      (only_keep (is_free P (spot_of x.item x.field.name)) (is_free (l.with_groups P hs) (spot_of x.item x.field.name)) at (x.field.kind, next at) (free_grows P hs k (spot_of x.item x.field.name)))
+      (l.only_keep (is_free P (spot_of x.item x.field.name)) (is_free (l.with_groups P hs) (spot_of x.item x.field.name)) at (x.field.kind, next at) (free_grows P hs k (spot_of x.item x.field.name)))
   found_keep P hs k c q at (Err n) e = tt
 
   atom_keep : (a : Atom) → is_qualified_atom a ≡ true → (P : Place) (hs : List Group) → l.GroupsGrow P.groups hs → (at : ℕ) → l.Implies (atom_kind C a P at) (atom_kind D a (l.with_groups P hs) at)
@@ -79,28 +68,28 @@ module _ (C D : Catalogue) (g : IsGrown C D) where
   expr_atom a q = (λ P hs p k at. atom_keep a q P hs k at, (refl, refl))
 
   pub expr_sum : (ms ns : List Means) → l.Alls l.KeepMeans ms ns → l.KeepMeans (expr_step C (layers.Expr-F.Sum ms)) (expr_step D (layers.Expr-F.Sum ns))
-  expr_sum ms ns h = (λ P hs p k at. l.bind _ _ _ _ (l.kinds_all ms ns h (one integer) P hs p k (next at)) (λ x. l.itself (one_kind at x)), (l.totals_all ms ns h, refl))
+  expr_sum ms ns h = (λ P hs p k at. l.bind _ _ _ _ (l.kinds_all ms ns h (one integer) P hs p k (next at)) (λ x. l.itself (one_kind at x)), (t.totals_all ms ns h, refl))
 
   pub expr_concat : (ms ns : List Means) → l.Alls l.KeepMeans ms ns → l.KeepMeans (expr_step C (layers.Expr-F.Concat ms)) (expr_step D (layers.Expr-F.Concat ns))
-  expr_concat ms ns h = (λ P hs p k at. l.bind _ _ _ _ (l.kinds_all ms ns h (one text) P hs p k (next at)) (λ x. l.itself (one_kind at x)), (l.totals_all ms ns h, l.sures_all ms ns h))
+  expr_concat ms ns h = (λ P hs p k at. l.bind _ _ _ _ (l.kinds_all ms ns h (one text) P hs p k (next at)) (λ x. l.itself (one_kind at x)), (t.totals_all ms ns h, t.sures_all ms ns h))
 
   pub expr_product : (ms ns : List Means) → l.Alls l.KeepMeans ms ns → l.KeepMeans (expr_step C (layers.Expr-F.Product ms)) (expr_step D (layers.Expr-F.Product ns))
-  expr_product ms ns h = (λ P hs p k at. l.bind _ _ _ _ (l.kinds_all ms ns h (one integer) P hs p k (next at)) (λ x. l.itself (one_kind at x)), (l.totals_all ms ns h, refl))
+  expr_product ms ns h = (λ P hs p k at. l.bind _ _ _ _ (l.kinds_all ms ns h (one integer) P hs p k (next at)) (λ x. l.itself (one_kind at x)), (t.totals_all ms ns h, refl))
 
   pub expr_coalesce : (ms ns : List Means) → l.Alls l.KeepMeans ms ns → l.KeepMeans (expr_step C (layers.Expr-F.Coalesce ms)) (expr_step D (layers.Expr-F.Coalesce ns))
-  expr_coalesce ms ns h = (λ P hs p k at. l.bind _ _ _ _ (l.kinds_all ms ns h (one null) P hs p k (next at)) (λ x. l.itself (plain_kind at x)), (l.totals_all ms ns h, l.sures_all ms ns h))
+  expr_coalesce ms ns h = (λ P hs p k at. l.bind _ _ _ _ (l.kinds_all ms ns h (one null) P hs p k (next at)) (λ x. l.itself (plain_kind at x)), (t.totals_all ms ns h, t.sures_all ms ns h))
 
   pub expr_case : (ms ns : List Arms) → l.Alls l.KeepArms ms ns → (o q : Option Means) → l.Maybe l.KeepMeans o q → l.KeepMeans (expr_step C (layers.Expr-F.Case ms o)) (expr_step D (layers.Expr-F.Case ns q))
   unfolding case_kind kind_of_results
-  expr_case ms ns h o q k = (λ P hs p j at. l.bind _ _ _ _ (l.bind _ _ _ _ (l.arms_all ms ns h (one null) P hs p j (next at)) (λ x. l.any_kind o q k x.0 P hs p j x.1)) (λ x. l.itself (plain_kind at x)), ((λ i. l.arm_totals ms ns h i || l.any_total o q k i), (λ i. l.arm_sures ms ns h i && l.any_sure o q k i)))
+  expr_case ms ns h o q k = (λ P hs p j at. l.bind _ _ _ _ (l.bind _ _ _ _ (l.arms_all ms ns h (one null) P hs p j (next at)) (λ x. l.any_kind o q k x.0 P hs p j x.1)) (λ x. l.itself (plain_kind at x)), ((λ i. t.arm_totals ms ns h i || t.any_total o q k i), (λ i. t.arm_sures ms ns h i && t.any_sure o q k i)))
 
   pub expr_match : (m n : Means) → l.KeepMeans m n → (ms ns : List Choices) → l.Alls l.KeepChoices ms ns → (o q : Option Means) → l.Maybe l.KeepMeans o q → l.KeepMeans (expr_step C (layers.Expr-F.Match m ms o)) (expr_step D (layers.Expr-F.Match n ns q))
   unfolding match_kind_of kinds_of_match
-  expr_match m n f ms ns h o q k = (λ P hs p j at. l.bind _ _ _ _ (l.bind _ _ _ _ (f.0 P hs p j (next at)) (λ x. l.choices_all ms ns h (one x.0) (one null) P hs p j x.1)) (λ x. l.bind _ _ _ _ (l.any_kind o q k x.0.1 P hs p j x.1) (λ y. l.itself (plain_results at x.0.0 y))), ((λ i. f.1.0 i || (l.choice_totals ms ns h i || l.any_total o q k i)), (λ i. f.1.1 i && (l.choice_sures ms ns h i && l.any_sure o q k i))))
+  expr_match m n f ms ns h o q k = (λ P hs p j at. l.bind _ _ _ _ (l.bind _ _ _ _ (f.0 P hs p j (next at)) (λ x. l.choices_all ms ns h (one x.0) (one null) P hs p j x.1)) (λ x. l.bind _ _ _ _ (l.any_kind o q k x.0.1 P hs p j x.1) (λ y. l.itself (plain_results at x.0.0 y))), ((λ i. f.1.0 i || (t.choice_totals ms ns h i || t.any_total o q k i)), (λ i. f.1.1 i && (t.choice_sures ms ns h i && t.any_sure o q k i))))
 
   pub expr_substr : (m n : Means) → l.KeepMeans m n → (e f : Means) → l.KeepMeans e f → (o q : Option Means) → l.Maybe l.KeepMeans o q → l.KeepMeans (expr_step C (layers.Expr-F.Substr m e o)) (expr_step D (layers.Expr-F.Substr n f q))
   unfolding substr_kind_of number_kind
-  expr_substr m n u e f h o q k = (λ P hs p j at. l.bind _ _ _ _ (u.0 P hs p j (next at)) (λ x. l.bind _ _ _ _ (l.bind _ _ _ _ (l.bind _ _ _ _ (h.0 P hs p j x.1) (λ y. refl)) (λ y. l.any_kind o q k y.0 P hs p j y.1)) (λ z. l.itself (substr_kind at x.0 z))), ((λ i. u.1.0 i || (h.1.0 i || l.any_total o q k i)), (λ i. u.1.1 i && (h.1.1 i && l.any_sure o q k i))))
+  expr_substr m n u e f h o q k = (λ P hs p j at. l.bind _ _ _ _ (u.0 P hs p j (next at)) (λ x. l.bind _ _ _ _ (l.bind _ _ _ _ (l.bind _ _ _ _ (h.0 P hs p j x.1) (λ y. refl)) (λ y. l.any_kind o q k y.0 P hs p j y.1)) (λ z. l.itself (substr_kind at x.0 z))), ((λ i. u.1.0 i || (h.1.0 i || t.any_total o q k i)), (λ i. u.1.1 i && (h.1.1 i && t.any_sure o q k i))))
 
   pub expr_apply : (f : Function) (m n : Means) → l.KeepMeans m n → l.KeepMeans (expr_step C (layers.Expr-F.Apply f m)) (expr_step D (layers.Expr-F.Apply f n))
   unfolding apply_kind
@@ -124,15 +113,15 @@ module _ (C D : Catalogue) (g : IsGrown C D) where
   -- the argument names columns of its own query alone still
   pub expr_aggregate : (op : Aggregate) (m n : Means) → l.KeepMeans m n → ((P : Place) → all_own C P.sight.level (m.marks P.sight) ≡ true → all_own D P.sight.level (n.marks P.sight) ≡ true) → l.KeepMeans (expr_step C (layers.Expr-F.Aggregate op m)) (expr_step D (layers.Expr-F.Aggregate op n))
   expr_aggregate op m n h own =
-      (λ P hs p k at. l.bind _ _ _ _ (h.0 (in_aggregate P) hs p k (next at)) (λ x. if_keep (P.aggregates && all_own C P.sight.level (m.marks P.sight)) (P.aggregates && all_own D P.sight.level (n.marks P.sight)) at (one_of at x.1 (aggregated op x.0)) (and_keep P.aggregates (all_own C P.sight.level (m.marks P.sight)) (all_own D P.sight.level (n.marks P.sight)) (own P))), (refl, h.1.1))
+      (λ P hs p k at. l.bind _ _ _ _ (h.0 (in_aggregate P) hs p k (next at)) (λ x. l.if_keep (P.aggregates && all_own C P.sight.level (m.marks P.sight)) (P.aggregates && all_own D P.sight.level (n.marks P.sight)) at (one_of at x.1 (aggregated op x.0)) (l.and_keep P.aggregates (all_own C P.sight.level (m.marks P.sight)) (all_own D P.sight.level (n.marks P.sight)) (own P))), (refl, h.1.1))
 
   -- ---- conditions
 
   pub cond_or : (ms ns : List Says) → l.Alls l.KeepSays ms ns → l.KeepSays (cond_step (layers.Cond-F.Or ms)) (cond_step (layers.Cond-F.Or ns))
-  cond_or ms ns h = (λ P hs p k at. l.typed_all ms ns h P hs p k (next at), (l.say_totals ms ns h, l.say_sures ms ns h))
+  cond_or ms ns h = (λ P hs p k at. l.typed_all ms ns h P hs p k (next at), (t.say_totals ms ns h, t.say_sures ms ns h))
 
   pub cond_and : (ms ns : List Says) → l.Alls l.KeepSays ms ns → l.KeepSays (cond_step (layers.Cond-F.And ms)) (cond_step (layers.Cond-F.And ns))
-  cond_and ms ns h = (λ P hs p k at. l.typed_all ms ns h P hs p k (next at), (l.say_totals ms ns h, l.say_sures ms ns h))
+  cond_and ms ns h = (λ P hs p k at. l.typed_all ms ns h P hs p k (next at), (t.say_totals ms ns h, t.say_sures ms ns h))
 
   pub cond_not : (m n : Says) → l.KeepSays m n → l.KeepSays (cond_step (layers.Cond-F.Not m)) (cond_step (layers.Cond-F.Not n))
   cond_not m n h = (λ P hs p k at. h.0 P hs p k (next at), (h.1.0, h.1.1))
@@ -158,7 +147,7 @@ module _ (C D : Catalogue) (g : IsGrown C D) where
 
   pub cond_inlist : (m n : Means) → l.KeepMeans m n → (ms ns : List Means) → l.Alls l.KeepMeans ms ns → l.KeepSays (cond_step (layers.Cond-F.InList m ms)) (cond_step (layers.Cond-F.InList n ns))
   unfolding in_list_typed kind_with_all
-  cond_inlist m n u ms ns h = (λ P hs p k at. l.bind _ _ _ _ (l.bind _ _ _ _ (u.0 P hs p k (next at)) (λ x. l.kinds_all ms ns h (one x.0) P hs p k x.1)) (λ x. l.itself (of_plain at x)), ((λ i. u.1.0 i || l.totals_all ms ns h i), (λ i. u.1.1 i && l.sures_all ms ns h i)))
+  cond_inlist m n u ms ns h = (λ P hs p k at. l.bind _ _ _ _ (l.bind _ _ _ _ (u.0 P hs p k (next at)) (λ x. l.kinds_all ms ns h (one x.0) P hs p k x.1)) (λ x. l.itself (of_plain at x)), ((λ i. u.1.0 i || t.totals_all ms ns h i), (λ i. u.1.1 i && t.sures_all ms ns h i)))
 
   pub cond_between : (m n : Means) → l.KeepMeans m n → (e f : Means) → l.KeepMeans e f → (u w : Means) → l.KeepMeans u w → l.KeepSays (cond_step (layers.Cond-F.Between m e u)) (cond_step (layers.Cond-F.Between n f w))
   unfolding between_typed kind_of_three kind_of_two
@@ -176,7 +165,7 @@ module _ (C D : Catalogue) (g : IsGrown C D) where
   item_value m n h name = (λ o grouped distinct P hs p k c at. l.outputs_of_implies o _ _ (l.bind _ _ _ _ (h.0 P hs p k at) (λ x. l.itself (only_if (fit (l.wants o grouped distinct) (x.0 ∷ [])) at (x.0 ∷ [], x.1)))), h.1.0)
 
   sure_keep : (m n : Says) → l.KeepSays m n → (P : Place) (hs : List Group) → l.GoodPlace P → l.GroupsGrow P.groups hs → (at : ℕ) → l.Implies (m.typed P at >>= only_if m.sure at) (n.typed (l.with_groups P hs) at >>= only_if n.sure at)
-  sure_keep m n h P hs p k at = l.bind _ _ _ _ (h.0 P hs p k at) (λ x. only_keep m.sure n.sure at x (λ e. sym h.1.1 ∙ e))
+  sure_keep m n h P hs p k at = l.bind _ _ _ _ (h.0 P hs p k at) (λ x. l.only_keep m.sure n.sure at x (λ e. sym h.1.1 ∙ e))
 
   pub join_inner : (tab : Tab) (m n : Says) → l.KeepSays m n → l.KeepJoins (join_step (layers.Join-F.Inner tab m)) (join_step (layers.Join-F.Inner tab n))
   join_inner tab m n h = (refl, sure_keep m n h)
@@ -233,7 +222,7 @@ module _ (C D : Catalogue) (g : IsGrown C D) where
     groups_are_clear P p false e = groups_clear (level_in P.sight.seen) P.groups p.1.1
 
     grouped_same : (o : Bool) → has_groups query_c (subquery o) ≡ has_groups query_d (subquery o)
-    grouped_same o = λ i. is_listed group || (l.is_some_same having having_ same_having i || (false || l.show_totals items others same_items i))
+    grouped_same o = λ i. is_listed group || (t.is_some_same having having_ same_having i || (false || t.show_totals items others same_items i))
 
     at_tabs : (o : Bool) (P : Place) (hs : List Group) → l.GoodPlace P → l.GroupsGrow P.groups hs → (at : ℕ) (b c : Bool) → b ≡ c → l.Outputs o (query_kinds C query_c tabs_c (groups_c b P) (subquery o) P at) (query_kinds D query_d tabs_c (groups_d c P tabs_c hs) (subquery o) (l.with_groups P hs) at)
     at_tabs o P hs p k at b c e =

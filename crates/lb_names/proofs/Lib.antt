@@ -22,6 +22,7 @@ pub mod Computed
 pub mod QualifiedMarks
 pub mod GrownNames
 pub mod GrownLists
+pub mod GrownTotals
 pub mod GrownStars
 pub mod GrownSteps
 pub mod GrownTypes
