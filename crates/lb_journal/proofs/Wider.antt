@@ -1,6 +1,6 @@
 -- A table that gets wider breaks no qualified condition.
-use Rattle.std.proofs.Common.{◌≡◌, refl, sym, ap, subst, ◌∙◌, ℕ, suc, ◌≤◌, Bool, true, false, cond, ◌||◌, List, [], ◌∷◌, ◌++◌, map, length, Option, Some, None, arith}
-use Rattle.std.specs.Prelude.{find, take, drop}
+use Rattle.std.proofs.Common.{◌≡◌, refl, sym, ap, subst, ◌∙◌, ℕ, ◌≤◌, true, ◌||◌, List, [], ◌∷◌, ◌++◌, map, length, Option, Some, None, arith}
+use Rattle.std.specs.Prelude.{take, drop}
 use Rattle.std.specs.Option.{option_map}
 use Rattle.std.specs.List.{AllZip, list_any}
 use Rattle.lb_base.specs.declared.key.Ty.{Ty}
