@@ -9,3 +9,4 @@ mod Written
 mod Targets
 mod Sessions
 mod Statements
+mod Again

@@ -85,7 +85,7 @@ only_true false at x y e = absurd cc
 
 -- ---- rows as names and types know them
 
-of_fields : (C : Cat) (fields : List Field) (columns : List ColumnRec) (row : List Value) → AllZip SameColumn fields columns → Loose C columns row → RowFits (policy_named C) fields row
+pub of_fields : (C : Cat) (fields : List Field) (columns : List ColumnRec) (row : List Value) → AllZip SameColumn fields columns → Loose C columns row → RowFits (policy_named C) fields row
 of_fields C [] [] [] s h = tt
 of_fields C [] [] (v ∷ row) s h = absurd h
 of_fields C [] (c ∷ columns) row s h = absurd s
@@ -164,7 +164,7 @@ module _ (N : Catalogue) (S : Setting) (C : Cat) (t : Table) (tys : List Ty) (pl
 
 module _ (are_rows : (b : Basis (List Value)) (rows : List (List Value)) (marks : List Marked) → AreRows b rows marks)
     (values_fit : ValuesFit) (assignments_fit : AssignmentsFit) (inserted_rows_fit : InsertedRowsFit) (selects_give : SelectsGiveTheirKinds) (guarded_agrees : GuardedAgrees) (target_holds : TargetHolds) where
-  known : (N : Catalogue) (C : Cat) (T : Tables) → Knows N C T → (n : List ℕ) (t : Table) → table_named C n ≡ Some t → AllZip SameColumn (listed (N.columns n)) t.columns
+  pub known : (N : Catalogue) (C : Cat) (T : Tables) → Knows N C T → (n : List ℕ) (t : Table) → table_named C n ≡ Some t → AllZip SameColumn (listed (N.columns n)) t.columns
   known N C T k n t e = subst (λ (o : Option Table). AllZip SameColumn (listed (N.columns n)) (columns_in o)) e (k.columns n)
 
   pub updates_fit : UpdatesFit

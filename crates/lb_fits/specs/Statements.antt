@@ -1,5 +1,5 @@
 -- What is said of whole statements: a write keeps that all tables fit.
-use Rattle.std.specs.Prelude.{ℕ, ℤ, ◌≡◌, List, None}
+use Rattle.std.specs.Prelude.{ℕ, ℤ, ◌≡◌, List, Some, None}
 use Rattle.std.specs.List.{AllByRecursion}
 use Rattle.lb_base.specs.Days.{IsDay}
 use Rattle.lb_base.specs.declared.key.Key.{Key}
@@ -13,7 +13,7 @@ use Rattle.lb_cat.specs.declared.cred.Cred.{Cred}
 use Rattle.lb_cat.specs.Catalog.{Cat, table_named}
 use Rattle.lb_names.specs.Scopes.{Catalogue}
 use Rattle.lb_names.specs.Statements.{types_refused}
-use Rattle.lb_rows.specs.Tables.{Tables}
+use Rattle.lb_rows.specs.Tables.{Tables, Version, put_version}
 use Rattle.lb_mean.specs.Answer.{Checks}
 use Rattle.lb_answer.specs.Answer.{answer, insert_answer, update_answer}
 use Rattle.lb_alter.specs.Fits.{CredFits}
@@ -65,3 +65,8 @@ InsertsFit = (rules : Rules) (N : Catalogue) (checks : Checks) (C : Cat) (c : Cr
 abbrev pub WritesFit : Type 0
 WritesFit = (rules : Rules) (N : Catalogue) (checks : Checks) (C : Cat) (c : Cred) (T : Tables) (day : ℤ) (s : Stmt)
     → Begins rules N C c T day → WritesDays s → types_refused N s ≡ None → LeavesFit C T (answer checks C c T day s)
+
+-- what a write leaves is what the next one begins with
+abbrev pub BeginsAgain : Type 0
+BeginsAgain = (rules : Rules) (N : Catalogue) (checks : Checks) (C : Cat) (c : Cred) (T : Tables) (day : ℤ) (s : Stmt)
+    → Begins rules N C c T day → WritesDays s → types_refused N s ≡ None → (v : Version) → (answer checks C c T day s).table ≡ Some v → Begins rules N C c (put_version v T) day
