@@ -1,17 +1,15 @@
 -- What a write leaves is what the next one begins with.
-use Rattle.std.proofs.Common.{ℕ, ℤ, ◌≡◌, refl, sym, subst, ap, ◌∙◌, true, List, [], ◌∷◌, Option, Some, None, Ok, Err, is_some}
-use Rattle.std.specs.Prelude.{find}
+use Rattle.std.proofs.Common.{ℕ, ℤ, ◌≡◌, refl, sym, subst, ap, true, List, [], ◌∷◌, Option, Some, None, Ok, Err, is_some}
 use Rattle.std.specs.List.{AllByRecursion, AllZip}
 use Rattle.lb_base.specs.declared.value.Value.{Value}
 use Rattle.lb_stmt.specs.declared.write.Stmt.TheVariants as stmts
-use Rattle.lb_cat.specs.declared.catalog.ColumnRec.{ColumnRec}
 use Rattle.lb_cat.specs.declared.cred.Cred.{Cred}
 use Rattle.lb_cat.specs.declared.refusal.Refusal.{Refusal}
 use Rattle.lb_cat.specs.declared.reply.Verb.{Verb}
 use Rattle.lb_cat.specs.declared.reply.Verb.TheVariants as verbs
-use Rattle.lb_cat.specs.Catalog.{Cat, Table, table_named, policy_named}
+use Rattle.lb_cat.specs.Catalog.{Cat, Table, Policy, table_named, policy_named, is_policy}
 use Rattle.lb_names.specs.Scopes.{Field, Catalogue, listed}
-use Rattle.lb_rows.specs.Tables.{Tables, Version, is_version, put_version, rows_in, rows_of}
+use Rattle.lb_rows.specs.Tables.{Tables, Version, put_version, rows_in, rows_of}
 use Rattle.lb_mean.specs.Answer.{Checks}
 use Rattle.lb_answer.specs.Answer.{Answered, answer, done, unless_refused, with_target, insert_into, update_in, delete_from}
 use Rattle.lb_answer.specs.Before.{insert_refused, update_refused, delete_refused}
@@ -20,10 +18,14 @@ use Rattle.lb_answer.specs.Writes.{Written}
 use Rattle.lb_alter.specs.Fits.{FitsTable, RowsFit}
 use Rattle.lb_alter.specs.Laws.{AllTablesFit}
 use Rattle.lb_alter.specs.Named.{HasTable}
+use Rattle.lb_alter.specs.Labelled.{HasItsShape}
+use Rattle.lb_alter.specs.Sound.{IsSound}
+use Rattle.lb_alter.specs.Stored.{Checks as Rules}
+use Rattle.lb_alter.proofs.SoundUsers.{all_found}
 use Rattle.lb_alter.proofs.SoundTables.{put_case, found_put}
-use Rattle.lb_kinds.specs.Agreement.{RowFits}
+use Rattle.lb_kinds.specs.Agreement.{RowFits, LabelsFit}
 use Rattle.lb_kinds.specs.Settings.{SameColumn, Knows, columns_in}
-use Rattle.lb_fits.specs.Statements.{WritesFit, BeginsAgain}
+use Rattle.lb_fits.specs.Statements.{FitsAreKnown, WritesFit, BeginsAgain}
 use Rattle.lb_fits.proofs.Columns.{loosely}
 use Rattle.lb_fits.proofs.Putting.{rows_there}
 use Rattle.lb_fits.proofs.Statements.{of_fields}
@@ -62,11 +64,12 @@ module _ (C : Cat) where
 
 -- ---- names and types know the rows that are left
 
-module _ (N : Catalogue) (C : Cat) (T : Tables) (v : Version) (knows : Knows N C T) (fits : AllTablesFit C (put_version v T)) where
+module _ (C : Cat) where
   as_fields : (fields : List Field) (t : Table) → AllZip SameColumn fields t.columns → (rows : List (List Value)) → AllByRecursion (FitsTable C t) rows → AllByRecursion (RowFits (policy_named C) fields) rows
   as_fields fields t same [] h = tt
   as_fields fields t same (row ∷ rows) h = (of_fields C fields t.columns row same (loosely C t.columns row h.0), as_fields fields t same rows h.1)
 
+module _ (N : Catalogue) (C : Cat) (T : Tables) (v : Version) (knows : Knows N C T) (fits : AllTablesFit C (put_version v T)) where
   abbrev Known : List ℕ → Option Version → Type 0
   Known n o = AllByRecursion (RowFits (policy_named C) (listed (N.columns n))) (rows_in o)
 
@@ -76,7 +79,7 @@ module _ (N : Catalogue) (C : Cat) (T : Tables) (v : Version) (knows : Knows N C
       let r : RowsFit C t (rows_of v.name (put_version v T)) = rows_there C (put_version v T) fits v.name t e in
       let q : RowsFit C t v.rows = subst (λ (o : Option Version). RowsFit C t (rows_in o)) (found_put (λ (x : Version). x.name) v T) r in
       let same : AllZip SameColumn (listed (N.columns v.name)) t.columns = subst (λ (o : Option Table). AllZip SameColumn (listed (N.columns v.name)) (columns_in o)) e (knows.columns v.name) in
-      as_fields (listed (N.columns v.name)) t same v.rows q.each
+      as_fields C (listed (N.columns v.name)) t same v.rows q.each
 
   known_again : HasTable C v.name → Knows N C (put_version v T)
   known_again there = record {
@@ -84,6 +87,25 @@ module _ (N : Catalogue) (C : Cat) (T : Tables) (v : Version) (knows : Knows N C
     rows = λ n. put_case (λ (x : Version). x.name) (Known n) v T n (λ same. subst (λ (m : List ℕ). Known m (Some v)) same (its_rows (table_named C v.name) refl there)) (knows.rows n);
     labels = knows.labels;
   }
+
+-- ---- names and types know the rows that fit
+
+module _ (rules : Rules) (C : Cat) (s : IsSound rules C) where
+  labels_fit : (n : List ℕ) (o : Option Policy) → policy_named C n ≡ o → LabelsFit o
+  labels_fit n None e = tt
+  labels_fit n (Some p) e = let h : HasItsShape C p = all_found (HasItsShape C) (is_policy n) C.policies p s.shapes e in h.labels
+
+  rows_fit : (fields : List Field) (T : Tables) (fits : AllTablesFit C T) (n : List ℕ) (o : Option Table) → table_named C n ≡ o → AllZip SameColumn fields (columns_in o) → (table_named C n ≡ None → rows_of n T ≡ [])
+      → AllByRecursion (RowFits (policy_named C) fields) (rows_of n T)
+  rows_fit fields T fits n None e same none = subst (AllByRecursion (RowFits (policy_named C) fields)) (sym (none e)) tt
+  rows_fit fields T fits n (Some t) e same none = let r : RowsFit C t (rows_of n T) = rows_there C T fits n t e in as_fields C fields t same (rows_of n T) r.each
+
+pub fits_are_known : FitsAreKnown
+fits_are_known rules N C T s fits columns none = record {
+  columns = columns;
+  rows = λ n. rows_fit rules C s (listed (N.columns n)) T fits n (table_named C n) refl (columns n) (none n);
+  labels = λ n. labels_fit rules C s n (policy_named C n) refl;
+}
 
 pub begins_again : WritesFit → BeginsAgain
 begins_again writes_fit rules N checks C c T day s begins days types v e =

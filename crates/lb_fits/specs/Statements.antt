@@ -1,6 +1,6 @@
 -- What is said of whole statements: a write keeps that all tables fit.
-use Rattle.std.specs.Prelude.{ℕ, ℤ, ◌≡◌, List, Some, None}
-use Rattle.std.specs.List.{AllByRecursion}
+use Rattle.std.specs.Prelude.{ℕ, ℤ, ◌≡◌, List, [], Some, None}
+use Rattle.std.specs.List.{AllByRecursion, AllZip}
 use Rattle.lb_base.specs.Days.{IsDay}
 use Rattle.lb_base.specs.declared.key.Key.{Key}
 use Rattle.lb_stmt.specs.declared.write.Insert.{Insert}
@@ -11,9 +11,9 @@ use Rattle.lb_stmt.specs.declared.write.Stmt.TheVariants as stmts
 use Rattle.lb_stmt.specs.declared.write.Update.{Update}
 use Rattle.lb_cat.specs.declared.cred.Cred.{Cred}
 use Rattle.lb_cat.specs.Catalog.{Cat, table_named}
-use Rattle.lb_names.specs.Scopes.{Catalogue}
+use Rattle.lb_names.specs.Scopes.{Catalogue, listed}
 use Rattle.lb_names.specs.Statements.{types_refused}
-use Rattle.lb_rows.specs.Tables.{Tables, Version, put_version}
+use Rattle.lb_rows.specs.Tables.{Tables, Version, put_version, rows_of}
 use Rattle.lb_mean.specs.Answer.{Checks}
 use Rattle.lb_answer.specs.Answer.{answer, insert_answer, update_answer}
 use Rattle.lb_alter.specs.Fits.{CredFits}
@@ -21,7 +21,7 @@ use Rattle.lb_alter.specs.Laws.{AllTablesFit}
 use Rattle.lb_alter.specs.Sound.{IsSound}
 use Rattle.lb_alter.specs.Stored.{Checks as Rules}
 use Rattle.lb_kinds.specs.Days.{days_in, days_in_query, AreDays}
-use Rattle.lb_kinds.specs.Settings.{Knows, MasksFit}
+use Rattle.lb_kinds.specs.Settings.{SameColumn, Knows, MasksFit, columns_in}
 use Rattle.lb_fits.specs.Laws.{LeavesFit}
 
 -- ---- what a write begins with
@@ -48,6 +48,15 @@ WritesDays (stmts.Insert i) = SourceHasDays i.source
 WritesDays (stmts.Update u) = AllByRecursion (λ a. AreDays (days_in a.value)) u.assignments
 WritesDays (stmts.Delete d) = Unit {0}
 WritesDays (stmts.Change c) = Unit {0}
+
+-- ---- what names and types know
+
+-- A catalogue of names that has the columns of a sound catalogue knows its tables where all of them fit, and there are no rows
+-- under a name that is no table's.
+abbrev pub FitsAreKnown : Type 0
+FitsAreKnown = (rules : Rules) (N : Catalogue) (C : Cat) (T : Tables) → IsSound rules C → AllTablesFit C T
+    → ((n : List ℕ) → AllZip SameColumn (listed (N.columns n)) (columns_in (table_named C n)))
+    → ((n : List ℕ) → table_named C n ≡ None → rows_of n T ≡ []) → Knows N C T
 
 -- ---- statements
 

@@ -7,7 +7,7 @@ ghost use Rattle.lb_answer.specs.Basis.{Basis};
 ghost use Rattle.lb_base.specs.Evaluated.{Evaluated};
 ghost use Rattle.lb_answer.specs.Writes.{Written};
 ghost use Rattle.lb_fits.specs.Laws.{DeletedFits, DeletesFit, StoredFits, NewFits, KeysAgree, UpdatedFits, InsertedFits};
-ghost use Rattle.lb_fits.specs.Statements.{UpdatesFit, InsertsFit, WritesFit, BeginsAgain};
+ghost use Rattle.lb_fits.specs.Statements.{FitsAreKnown, UpdatesFit, InsertsFit, WritesFit, BeginsAgain};
 
 /// The rows that a DELETE leaves fit their table where its rows did: they are some of these, their keys stay different, and they
 /// have no more cells. So after a DELETE that is answered with rows all tables fit where all did before.
@@ -65,3 +65,9 @@ pub fn writes_keep_fits()
     lb_kinds::settings_agree_with_names();
     lb_kinds::evaluation_begins_with_rows_in_sight();
 }
+
+/// A catalogue of names that has the columns of a sound catalogue knows its tables, rows and labels where all tables fit, and there
+/// are no rows under a name that is no table's.
+pub fn fitting_rows_are_known()
+    ensures { FitsAreKnown }
+{}
