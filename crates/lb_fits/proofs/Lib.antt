@@ -10,3 +10,4 @@ mod Targets
 mod Sessions
 mod Statements
 mod Again
+mod Masks

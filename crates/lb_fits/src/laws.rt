@@ -7,6 +7,7 @@ ghost use Rattle.lb_answer.specs.Basis.{Basis};
 ghost use Rattle.lb_base.specs.Evaluated.{Evaluated};
 ghost use Rattle.lb_answer.specs.Writes.{Written};
 ghost use Rattle.lb_fits.specs.Laws.{DeletedFits, DeletesFit, StoredFits, NewFits, KeysAgree, UpdatedFits, InsertedFits};
+ghost use Rattle.lb_fits.specs.Masks.{SoundMasksFit};
 ghost use Rattle.lb_fits.specs.Statements.{FitsAreKnown, UpdatesFit, InsertsFit, WritesFit, BeginsAgain};
 
 /// The rows that a DELETE leaves fit their table where its rows did: they are some of these, their keys stay different, and they
@@ -71,3 +72,11 @@ pub fn writes_keep_fits()
 pub fn fitting_rows_are_known()
     ensures { FitsAreKnown }
 {}
+
+/// The masks of a sound catalogue fit their columns, where a catalogue of names has its columns, the rules by which changes check the
+/// types of a mask let none pass that the rules of types refuse, and the DATE literals of masks are days.
+pub fn sound_masks_fit()
+    ensures { SoundMasksFit }
+{
+    lb_kinds::typed_writes_give_values_of_their_columns();
+}
