@@ -25,7 +25,7 @@ use Rattle.lb_alter.proofs.SoundUsers.{all_found}
 use Rattle.lb_alter.proofs.SoundTables.{put_case, found_put}
 use Rattle.lb_kinds.specs.Agreement.{RowFits, LabelsFit}
 use Rattle.lb_kinds.specs.Settings.{SameColumn, Knows, columns_in}
-use Rattle.lb_fits.specs.Statements.{FitsAreKnown, WritesFit, BeginsAgain}
+use Rattle.lb_fits.specs.Statements.{FitsAreKnown, WritesFit, StaysReady}
 use Rattle.lb_fits.proofs.Columns.{loosely}
 use Rattle.lb_fits.proofs.Putting.{rows_there}
 use Rattle.lb_fits.proofs.Statements.{of_fields}
@@ -107,8 +107,8 @@ fits_are_known rules N C T s fits columns none = record {
   labels = λ n. labels_fit rules C s n (policy_named C n) refl;
 }
 
-pub begins_again : WritesFit → BeginsAgain
-begins_again writes_fit rules N checks C c T day s begins days types v e =
+pub stays_ready : WritesFit → StaysReady
+stays_ready writes_fit rules N checks C c T day s begins days types v e =
     let fits : AllTablesFit C (put_version v T) = writes_fit rules N checks C c T day s begins days types v e in
     record {
       sound = begins.sound;

@@ -1,5 +1,5 @@
 -- The masks of a sound catalogue fit their columns.
-use Rattle.std.proofs.Common.{ℕ, zero, suc, ◌≡◌, refl, sym, subst, ap, ◌∙◌, eqb-true, Bool, true, false, cond, not, ◌&&◌, ◌||◌, ◌==◌, List, [], ◌∷◌, map, slice_get, Option, Some, None}
+use Rattle.std.proofs.Common.{ℕ, zero, suc, ◌≡◌, refl, subst, ap, ◌∙◌, eqb-true, Bool, true, false, cond, not, ◌&&◌, ◌==◌, List, [], ◌∷◌, map, slice_get, Option, Some, None}
 use Rattle.std.specs.Prelude.{find, if◌then◌else◌}
 use Rattle.std.specs.List.{AllByRecursion, AllZip, list_any}
 use Rattle.std.specs.Str.{bytes_eq}
@@ -8,7 +8,6 @@ use Rattle.lb_cat.specs.declared.catalog.MaskRec.{MaskRec}
 use Rattle.lb_cat.specs.Catalog.{Cat, Table, table_named, is_table, is_among}
 use Rattle.lb_names.specs.Scopes.{Field, Catalogue, listed, field_named}
 use Rattle.lb_names.specs.Statements.{mask_types_refused}
-use Rattle.lb_mean.specs.Visible.{mask_at}
 use Rattle.lb_alter.specs.Columns.{HasItsColumns}
 use Rattle.lb_alter.specs.Named.{are_different}
 use Rattle.lb_alter.specs.Sound.{IsSound}
@@ -18,7 +17,7 @@ use Rattle.lb_alter.proofs.SoundTables.{itself}
 use Rattle.lb_alter.proofs.SoundUsers.{all_found}
 use Rattle.lb_alter.proofs.Untouched.{turned, or_left, or_right, named_there}
 use Rattle.lb_kinds.specs.Given.{CheckedMasksFit}
-use Rattle.lb_kinds.specs.Settings.{kind_of, SameColumn, MasksFit, MaskFits, columns_in}
+use Rattle.lb_kinds.specs.Settings.{kind_of, SameColumn, MasksFit, columns_in}
 use Rattle.lb_fits.specs.Masks.{RefusesUntypedMasks, HasDays, MasksHaveDays, SoundMasksFit}
 use Rattle.lb_fits.proofs.Steps.{left_true, right_true, not_false}
 

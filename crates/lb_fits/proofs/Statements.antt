@@ -52,7 +52,7 @@ use Rattle.lb_kinds.specs.Selected.{SelectsGiveTheirKinds}
 use Rattle.lb_kinds.specs.Settings.{kind_of, columns_in, SameColumn, Knows, GuardedAgrees}
 use Rattle.lb_kinds.specs.Standing.{PieceFits, HoldsFor}
 use Rattle.lb_fits.specs.Given.{ArePlaced, GivesPlaces}
-use Rattle.lb_fits.specs.Statements.{Begins, SourceHasDays, UpdatesFit, InsertsFit, WritesFit}
+use Rattle.lb_fits.specs.Statements.{IsReady, SourceHasDays, UpdatesFit, InsertsFit, WritesFit}
 use Rattle.lb_fits.proofs.Columns.{Loose, loosely}
 use Rattle.lb_fits.proofs.Deleting.{deletes_fit}
 use Rattle.lb_fits.proofs.Putting.{rows_there, answer_fits}
@@ -218,7 +218,7 @@ module _ (are_rows : (b : Basis (List Value)) (rows : List (List Value)) (marks 
       kinds (Ok z) = z.0
       kinds (Err at) = x
 
-  source_fits : (rules : _) (N : Catalogue) (checks : Checks) (C : Cat) (c : Cred) (T : Tables) (day : ℤ) (i : Insert) (source : InsertSource) → Begins rules N C c T day → SourceHasDays source
+  source_fits : (rules : _) (N : Catalogue) (checks : Checks) (C : Cat) (c : Cred) (T : Tables) (day : ℤ) (i : Insert) (source : InsertSource) → IsReady rules N C c T day → SourceHasDays source
       → source_types_refused N (kinds_given N i.table i.columns) source ≡ None → (t : Table) (w : Written) → table_named C i.table ≡ Some t → insert_into C c T day i source t ≡ Ok w → RowsFit C t w.rows
   source_fits rules N checks C c T day i (sources.Rows rows) begins days types t w e h =
       let S : Setting = guarded C c T day in

@@ -24,11 +24,11 @@ use Rattle.lb_kinds.specs.Days.{days_in, days_in_query, AreDays}
 use Rattle.lb_kinds.specs.Settings.{SameColumn, Knows, MasksFit, columns_in}
 use Rattle.lb_fits.specs.Laws.{LeavesFit}
 
--- ---- what a write begins with
+-- ---- before a write
 
 -- Where a session writes: a sound catalogue, all of whose tables and masks fit, as names and types know them, labels of the session
 -- that are labels of their policies, and a day of the calendar.
-pub record Begins (rules : Rules) (N : Catalogue) (C : Cat) (c : Cred) (T : Tables) (day : ℤ) : Type 0 where
+pub record IsReady (rules : Rules) (N : Catalogue) (C : Cat) (c : Cred) (T : Tables) (day : ℤ) : Type 0 where
   pub sound : IsSound rules C
   pub tables : AllTablesFit C T
   pub masks : (n : List ℕ) → MasksFit N n (table_named C n)
@@ -63,19 +63,19 @@ FitsAreKnown = (rules : Rules) (N : Catalogue) (C : Cat) (T : Tables) → IsSoun
 -- an UPDATE whose types are not refused keeps that all tables fit
 abbrev pub UpdatesFit : Type 0
 UpdatesFit = (rules : Rules) (N : Catalogue) (checks : Checks) (C : Cat) (c : Cred) (T : Tables) (day : ℤ) (u : Update)
-    → Begins rules N C c T day → WritesDays (stmts.Update u) → types_refused N (stmts.Update u) ≡ None → LeavesFit C T (update_answer C c T day checks u)
+    → IsReady rules N C c T day → WritesDays (stmts.Update u) → types_refused N (stmts.Update u) ≡ None → LeavesFit C T (update_answer C c T day checks u)
 
 -- an INSERT whose types are not refused keeps it
 abbrev pub InsertsFit : Type 0
 InsertsFit = (rules : Rules) (N : Catalogue) (checks : Checks) (C : Cat) (c : Cred) (T : Tables) (day : ℤ) (i : Insert)
-    → Begins rules N C c T day → WritesDays (stmts.Insert i) → types_refused N (stmts.Insert i) ≡ None → LeavesFit C T (insert_answer C c T day checks i)
+    → IsReady rules N C c T day → WritesDays (stmts.Insert i) → types_refused N (stmts.Insert i) ≡ None → LeavesFit C T (insert_answer C c T day checks i)
 
 -- each query and each write whose types are not refused keeps it
 abbrev pub WritesFit : Type 0
 WritesFit = (rules : Rules) (N : Catalogue) (checks : Checks) (C : Cat) (c : Cred) (T : Tables) (day : ℤ) (s : Stmt)
-    → Begins rules N C c T day → WritesDays s → types_refused N s ≡ None → LeavesFit C T (answer checks C c T day s)
+    → IsReady rules N C c T day → WritesDays s → types_refused N s ≡ None → LeavesFit C T (answer checks C c T day s)
 
--- what a write leaves is what the next one begins with
-abbrev pub BeginsAgain : Type 0
-BeginsAgain = (rules : Rules) (N : Catalogue) (checks : Checks) (C : Cat) (c : Cred) (T : Tables) (day : ℤ) (s : Stmt)
-    → Begins rules N C c T day → WritesDays s → types_refused N s ≡ None → (v : Version) → (answer checks C c T day s).table ≡ Some v → Begins rules N C c (put_version v T) day
+-- and the session is ready for its next statement over what it leaves
+abbrev pub StaysReady : Type 0
+StaysReady = (rules : Rules) (N : Catalogue) (checks : Checks) (C : Cat) (c : Cred) (T : Tables) (day : ℤ) (s : Stmt)
+    → IsReady rules N C c T day → WritesDays s → types_refused N s ≡ None → (v : Version) → (answer checks C c T day s).table ≡ Some v → IsReady rules N C c (put_version v T) day

@@ -8,7 +8,7 @@ ghost use Rattle.lb_base.specs.Evaluated.{Evaluated};
 ghost use Rattle.lb_answer.specs.Writes.{Written};
 ghost use Rattle.lb_fits.specs.Laws.{DeletedFits, DeletesFit, StoredFits, NewFits, KeysAgree, UpdatedFits, InsertedFits};
 ghost use Rattle.lb_fits.specs.Masks.{SoundMasksFit};
-ghost use Rattle.lb_fits.specs.Statements.{FitsAreKnown, UpdatesFit, InsertsFit, WritesFit, BeginsAgain};
+ghost use Rattle.lb_fits.specs.Statements.{FitsAreKnown, UpdatesFit, InsertsFit, WritesFit, StaysReady};
 
 /// The rows that a DELETE leaves fit their table where its rows did: they are some of these, their keys stay different, and they
 /// have no more cells. So after a DELETE that is answered with rows all tables fit where all did before.
@@ -53,12 +53,12 @@ pub fn inserted_rows_fit<S>()
 
 /// Where a session writes over a sound catalogue whose tables fit, with labels of its policies' shapes, and the rules of types
 /// refuse nothing, every statement that is answered with new rows leaves all tables fitting: UPDATE, INSERT with VALUES and with a
-/// query, and DELETE. And what it leaves is what the next statement begins with.
+/// query, and DELETE. And all that was asked holds again of what it leaves.
 pub fn writes_keep_fits()
     ensures updates { UpdatesFit }
     ensures inserts { InsertsFit }
     ensures statements { WritesFit }
-    ensures again { BeginsAgain }
+    ensures ready { StaysReady }
 {
     lb_answer::candidates_are_kept_rows();
     lb_kinds::typed_writes_give_values_of_their_columns();
