@@ -9,3 +9,5 @@ mod Written
 mod Targets
 mod Sessions
 mod Statements
+mod Again
+mod Masks

@@ -52,7 +52,7 @@ use Rattle.lb_kinds.specs.Selected.{SelectsGiveTheirKinds}
 use Rattle.lb_kinds.specs.Settings.{kind_of, columns_in, SameColumn, Knows, GuardedAgrees}
 use Rattle.lb_kinds.specs.Standing.{PieceFits, HoldsFor}
 use Rattle.lb_fits.specs.Given.{ArePlaced, GivesPlaces}
-use Rattle.lb_fits.specs.Statements.{Begins, SourceHasDays, UpdatesFit, InsertsFit, WritesFit}
+use Rattle.lb_fits.specs.Statements.{IsReady, SourceHasDays, UpdatesFit, InsertsFit, WritesFit}
 use Rattle.lb_fits.proofs.Columns.{Loose, loosely}
 use Rattle.lb_fits.proofs.Deleting.{deletes_fit}
 use Rattle.lb_fits.proofs.Putting.{rows_there, answer_fits}
@@ -85,7 +85,7 @@ only_true false at x y e = absurd cc
 
 -- ---- rows as names and types know them
 
-of_fields : (C : Cat) (fields : List Field) (columns : List ColumnRec) (row : List Value) → AllZip SameColumn fields columns → Loose C columns row → RowFits (policy_named C) fields row
+pub of_fields : (C : Cat) (fields : List Field) (columns : List ColumnRec) (row : List Value) → AllZip SameColumn fields columns → Loose C columns row → RowFits (policy_named C) fields row
 of_fields C [] [] [] s h = tt
 of_fields C [] [] (v ∷ row) s h = absurd h
 of_fields C [] (c ∷ columns) row s h = absurd s
@@ -164,7 +164,7 @@ module _ (N : Catalogue) (S : Setting) (C : Cat) (t : Table) (tys : List Ty) (pl
 
 module _ (are_rows : (b : Basis (List Value)) (rows : List (List Value)) (marks : List Marked) → AreRows b rows marks)
     (values_fit : ValuesFit) (assignments_fit : AssignmentsFit) (inserted_rows_fit : InsertedRowsFit) (selects_give : SelectsGiveTheirKinds) (guarded_agrees : GuardedAgrees) (target_holds : TargetHolds) where
-  known : (N : Catalogue) (C : Cat) (T : Tables) → Knows N C T → (n : List ℕ) (t : Table) → table_named C n ≡ Some t → AllZip SameColumn (listed (N.columns n)) t.columns
+  pub known : (N : Catalogue) (C : Cat) (T : Tables) → Knows N C T → (n : List ℕ) (t : Table) → table_named C n ≡ Some t → AllZip SameColumn (listed (N.columns n)) t.columns
   known N C T k n t e = subst (λ (o : Option Table). AllZip SameColumn (listed (N.columns n)) (columns_in o)) e (k.columns n)
 
   pub updates_fit : UpdatesFit
@@ -218,7 +218,7 @@ module _ (are_rows : (b : Basis (List Value)) (rows : List (List Value)) (marks 
       kinds (Ok z) = z.0
       kinds (Err at) = x
 
-  source_fits : (rules : _) (N : Catalogue) (checks : Checks) (C : Cat) (c : Cred) (T : Tables) (day : ℤ) (i : Insert) (source : InsertSource) → Begins rules N C c T day → SourceHasDays source
+  source_fits : (rules : _) (N : Catalogue) (checks : Checks) (C : Cat) (c : Cred) (T : Tables) (day : ℤ) (i : Insert) (source : InsertSource) → IsReady rules N C c T day → SourceHasDays source
       → source_types_refused N (kinds_given N i.table i.columns) source ≡ None → (t : Table) (w : Written) → table_named C i.table ≡ Some t → insert_into C c T day i source t ≡ Ok w → RowsFit C t w.rows
   source_fits rules N checks C c T day i (sources.Rows rows) begins days types t w e h =
       let S : Setting = guarded C c T day in
