@@ -28,7 +28,7 @@ use Rattle.lb_kinds.specs.Settings.{SameColumn, Knows, columns_in}
 use Rattle.lb_fits.specs.Statements.{FitsAreKnown, WritesFit, StaysReady}
 use Rattle.lb_fits.proofs.Columns.{loosely}
 use Rattle.lb_fits.proofs.Putting.{rows_there}
-use Rattle.lb_fits.proofs.Statements.{of_fields}
+use Rattle.lb_fits.proofs.Evaluated.{of_fields}
 
 -- ---- rows are left in a table that is there
 
