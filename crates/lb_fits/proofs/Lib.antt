@@ -8,4 +8,7 @@ mod KeyTests
 mod Written
 mod Targets
 mod Sessions
+mod Evaluated
 mod Statements
+mod Again
+mod Masks

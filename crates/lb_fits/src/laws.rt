@@ -7,7 +7,8 @@ ghost use Rattle.lb_answer.specs.Basis.{Basis};
 ghost use Rattle.lb_base.specs.Evaluated.{Evaluated};
 ghost use Rattle.lb_answer.specs.Writes.{Written};
 ghost use Rattle.lb_fits.specs.Laws.{DeletedFits, DeletesFit, StoredFits, NewFits, KeysAgree, UpdatedFits, InsertedFits};
-ghost use Rattle.lb_fits.specs.Statements.{UpdatesFit, InsertsFit, WritesFit};
+ghost use Rattle.lb_fits.specs.Masks.{SoundMasksFit};
+ghost use Rattle.lb_fits.specs.Statements.{FitsAreKnown, UpdatesFit, InsertsFit, WritesFit, StaysReady};
 
 /// The rows that a DELETE leaves fit their table where its rows did: they are some of these, their keys stay different, and they
 /// have no more cells. So after a DELETE that is answered with rows all tables fit where all did before.
@@ -52,15 +53,30 @@ pub fn inserted_rows_fit<S>()
 
 /// Where a session writes over a sound catalogue whose tables fit, with labels of its policies' shapes, and the rules of types
 /// refuse nothing, every statement that is answered with new rows leaves all tables fitting: UPDATE, INSERT with VALUES and with a
-/// query, and DELETE.
+/// query, and DELETE. And all that was asked holds again of what it leaves.
 pub fn writes_keep_fits()
     ensures updates { UpdatesFit }
     ensures inserts { InsertsFit }
     ensures statements { WritesFit }
+    ensures ready { StaysReady }
 {
     lb_answer::candidates_are_kept_rows();
     lb_kinds::typed_writes_give_values_of_their_columns();
     lb_kinds::typed_selects_give_outputs_of_their_kinds();
     lb_kinds::settings_agree_with_names();
     lb_kinds::evaluation_begins_with_rows_in_sight();
+}
+
+/// A catalogue of names that has the columns of a sound catalogue knows its tables, rows and labels where all tables fit, and there
+/// are no rows under a name that is no table's.
+pub fn fitting_rows_are_known()
+    ensures { FitsAreKnown }
+{}
+
+/// The masks of a sound catalogue fit their columns, where a catalogue of names has its columns, the rules by which changes check the
+/// types of a mask let none pass that the rules of types refuse, and the DATE literals of masks are days.
+pub fn sound_masks_fit()
+    ensures { SoundMasksFit }
+{
+    lb_kinds::typed_writes_give_values_of_their_columns();
 }

@@ -8,3 +8,4 @@ pub mod State
 pub mod Told
 pub mod Rules
 pub mod Lasting
+pub mod Steadiness

@@ -10,6 +10,8 @@ ghost use Rattle.lb_journal.specs.Replay.{Replay, Rep};
 ghost use Rattle.lb_journal.specs.Roots.{root};
 ghost use Rattle.lb_journal.specs.Engine.{RightGives};
 ghost use Rattle.lb_journal.specs.Lasting.{AnswerStays, RightLasts, WriteDependenciesLast};
+ghost use Rattle.lb_journal.specs.Rules.{stored_rules};
+ghost use Rattle.lb_journal.specs.Steadiness.{KeepsMaskMentions, KeepsMentions, MaskMentionsStand, MentionsStand, OutlastsColumns, OutlastsColumnsInMask, OutlastsLabels, OutlastsLabelsInMask, ReadsNoMore, ReadsNoMoreInMask};
 ghost use Rattle.lb_journal.specs.Laws.{AbsentIsZero, HasOneReplay, HasOneReply, SameStampSameRecord, StampsTell};
 
 use crate::engine::Engine;
@@ -60,4 +62,20 @@ pub fn right_plans_last<E: Engine>()
 /// rows, and the session's credentials are the same so far as these keys decide them.
 pub fn write_dependencies_last()
     ensures { WriteDependenciesLast }
+{}
+
+/// The rules for stored conditions: they read no more than what a condition depends on; the qualified form mentions what the
+/// condition mentions; what is mentioned is there; other labels of a policy break no condition whose labels stay, and more columns
+/// of a table no condition that is qualified.
+pub fn stored_rules_are_steady()
+    ensures reads { ReadsNoMore stored_rules }
+    ensures reads_mask { ReadsNoMoreInMask stored_rules }
+    ensures mentions { KeepsMentions stored_rules }
+    ensures mask_mentions { KeepsMaskMentions stored_rules }
+    ensures stands { MentionsStand stored_rules }
+    ensures stands_mask { MaskMentionsStand stored_rules }
+    ensures relabels { OutlastsLabels stored_rules }
+    ensures relabels_mask { OutlastsLabelsInMask stored_rules }
+    ensures widens { OutlastsColumns stored_rules }
+    ensures widens_mask { OutlastsColumnsInMask stored_rules }
 {}

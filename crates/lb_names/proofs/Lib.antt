@@ -19,3 +19,15 @@ pub mod FoundColumns
 pub mod QualifiedForms
 pub mod Stays
 pub mod Computed
+pub mod QualifiedMarks
+pub mod GrownNames
+pub mod GrownLists
+pub mod GrownTotals
+pub mod GrownStars
+pub mod GrownSteps
+pub mod GrownTypes
+pub mod GrownRules
+pub mod FormMarks
+pub mod Apart
+pub mod ApartMarks
+pub mod FormNames

@@ -18,6 +18,7 @@ use Rattle.lb_names.specs.Typing.{says, means, answers}
 use Rattle.lb_names.specs.Statements.{names_refused, types_refused, permission_names_refused, permission_types_refused, permission_qualified, mask_names_refused, mask_types_refused, mask_qualified}
 use Rattle.lb_names.specs.Qualified.{are_qualified, are_qualified_in}
 use Rattle.lb_names.specs.Agreeing.{AgreeOn, AreThere}
+use Rattle.lb_names.specs.Growing.{IsGrown}
 
 -- what is mentioned is what the marks mention, in their order, wherever a part stands
 pub record MentionsAreMarked : Type 0 where
@@ -73,3 +74,18 @@ are_apart (s ∷ seen) = not (is_called (correlation s.tab) seen) && are_apart s
 -- a column means what it meant when it is qualified, where no two items in sight have one correlation name, as in a stored condition
 pub record ColumnsStay (C : Catalogue) : Type 0 where
   pub column : (seen : List Seen) (c : Column) (x : Found) → are_apart seen ≡ true → resolve C seen c ≡ Ok x → resolve C seen (with_item C seen c) ≡ Ok x
+
+-- the names of a qualified condition or CASE stay unrefused where tables get more columns
+pub record NamesOutlastColumns (C D : Catalogue) : Type 0 where
+  pub permission : (tab : Tab) (c : Cond) → IsGrown C D → are_qualified c ≡ true → permission_names_refused C tab c ≡ None → permission_names_refused D tab c ≡ None
+  pub mask : (tab : Tab) (e : Expr) → IsGrown C D → are_qualified_in e ≡ true → mask_names_refused C tab e ≡ None → mask_names_refused D tab e ≡ None
+
+-- so do its types
+pub record TypesOutlastColumns (C D : Catalogue) : Type 0 where
+  pub permission : (tab : Tab) (c : Cond) → IsGrown C D → are_qualified c ≡ true → permission_types_refused C tab c ≡ None → permission_types_refused D tab c ≡ None
+  pub mask : (tab : Tab) (column : Name) (e : Expr) → IsGrown C D → are_qualified_in e ≡ true → mask_types_refused C tab column e ≡ None → mask_types_refused D tab column e ≡ None
+
+-- The names of the qualified form are not refused where those of the condition are not, over the table by the same correlation name.
+pub record FormsKeepNames (C : Catalogue) : Type 0 where
+  pub permission : (tab other : Tab) → tab.table ≡ other.table → correlation tab ≡ correlation other → (c : Cond) → permission_names_refused C tab c ≡ None → permission_names_refused C other (permission_qualified C tab c) ≡ None
+  pub mask : (tab other : Tab) → tab.table ≡ other.table → correlation tab ≡ correlation other → (e : Expr) → mask_names_refused C tab e ≡ None → mask_names_refused C other (mask_qualified C tab e) ≡ None

@@ -23,3 +23,4 @@ pub mod Small
 pub mod Examples
 pub mod Agreeing
 pub mod Laws
+pub mod Growing

@@ -3,7 +3,7 @@ ghost use Rattle.std.specs.Prelude.{◌≡◌, Some, None, [], ◌∷◌, true};
 ghost use Rattle.lb_stmt.specs.declared.write.Stmt.TheVariants as stmts;
 ghost use Rattle.lb_names.specs.declared.refused.Refused.TheVariants.{BadLabel, Exists, Types, Unknown};
 ghost use Rattle.lb_names.specs.Examples as e;
-ghost use Rattle.lb_names.specs.Laws.{ColumnsStay, FormsAreQualified, FormsHaveAFrame, FormsKeepMentions, MentionsAreMarked, MentionsAreThere, NamesHaveAFrame, TypesHaveAFrame, TypingCarriesMarks};
+ghost use Rattle.lb_names.specs.Laws.{ColumnsStay, FormsAreQualified, FormsHaveAFrame, FormsKeepMentions, FormsKeepNames, MentionsAreMarked, MentionsAreThere, NamesHaveAFrame, NamesOutlastColumns, TypesHaveAFrame, TypesOutlastColumns, TypingCarriesMarks};
 ghost use Rattle.lb_names.specs.Scopes.{Catalogue};
 ghost use Rattle.lb_names.specs.Small.{a, k, q, small, table, w, x};
 ghost use Rattle.lb_names.specs.StatementMarks.{marks_of};
@@ -44,6 +44,12 @@ pub fn forms_are_qualified()
     ensures { (C : Catalogue) → FormsAreQualified C }
 {}
 
+/// Where the names of a permission or a mask are not refused, those of its qualified form are not, over the table by the same
+/// correlation name, written or not.
+pub fn forms_keep_names()
+    ensures { (C : Catalogue) → FormsKeepNames C }
+{}
+
 /// A column that is qualified means what it meant, where no two items in sight have one correlation name.
 pub fn columns_stay()
     ensures { (C : Catalogue) → ColumnsStay C }
@@ -52,6 +58,16 @@ pub fn columns_stay()
 /// Where the names are not refused, the tables, policies and labels that are mentioned are there.
 pub fn mentions_are_there()
     ensures { (C : Catalogue) → MentionsAreThere C }
+{}
+
+/// The names of a qualified condition stay unrefused where tables get more columns at their ends.
+pub fn names_outlast_columns()
+    ensures { (C D : Catalogue) → NamesOutlastColumns C D }
+{}
+
+/// A qualified condition keeps its types where tables get more columns at their ends that hold no labels.
+pub fn types_outlast_columns()
+    ensures { (C D : Catalogue) → TypesOutlastColumns C D }
 {}
 
 /// Names and types of statements, permissions and masks over a small catalogue, a condition that is qualified, and the columns
