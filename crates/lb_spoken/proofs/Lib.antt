@@ -1,0 +1,3 @@
+mod Gives
+mod AsRead
+mod Dates
