@@ -1,16 +1,16 @@
 -- A change that some text spells is as it was read.
-use Rattle.std.proofs.Common.{Bool, true, false, cond, ◌≡◌, ℕ, ◌≤◌, List, length, Option, Some, None, refl}
+use Rattle.std.proofs.Common.{Bool, true, false, cond, ◌≡◌, ℕ, List, Some, None, refl}
 use Rattle.lb_base.specs.Names.{is_name, folded, name_of, IsFolded}
 use Rattle.lb_stmt.specs.declared.change.Change.{Change}
 use Rattle.lb_stmt.specs.declared.write.Stmt.{Stmt}
 use Rattle.lb_stmt.specs.declared.write.Stmt.TheVariants as stmts
 use Rattle.lb_tok.specs.Form.{Below}
-use Rattle.lb_tok.specs.Grammar.{IsName, level}
+use Rattle.lb_tok.specs.Grammar.{IsName}
 use Rattle.lb_tok.specs.Changes.{IsCreateTable, IsCreateLabel, IsCreatePolicy, IsPermission, IsMask, IsCreate, IsAdded, IsAlteredColumn, IsAlterTable, IsAlter, IsDropLabel, IsDrop, IsGrant, IsRevoke, IsChange, IsStmt}
 use Rattle.lb_tok.specs.Spelled.{IsSpoken}
 use Rattle.lb_tok.proofs.SpelledWords.{free}
 use Rattle.lb_alter.specs.Laws.{IsAsRead}
-use Rattle.lb_spoken.proofs.Gives.{Gives, anything, nothing, means, after, made, either, seq, past, bracket, some_listed, spoken_gives}
+use Rattle.lb_spoken.proofs.Gives.{Gives, anything, means, after, made, either, seq, past, bracket, some_listed, spoken_gives}
 
 folded_of : (n : List ℕ) → name_of n ≡ Some n → IsFolded n
 folded_of n e = go (is_name n) refl e

@@ -3,7 +3,6 @@ use Rattle.std.proofs.Common.{List, [], ◌∷◌}
 use Rattle.std.specs.List.{AllByRecursion}
 use Rattle.lb_tree.specs.declared.query.Expr.{Expr}
 use Rattle.lb_tree.specs.declared.query.Cond.{Cond}
-use Rattle.lb_tree.specs.declared.query.Cond.TheVariants as conds
 use Rattle.lb_tok.specs.Form.{Below, Lang}
 use Rattle.lb_tok.specs.Grammar.{ands, ors, Negated, IsNullTest, IsSet, IsRange, IsPred, IsPrim, IsNeg, IsConj, IsCond}
 use Rattle.lb_spoken.proofs.Gives.{Gives, means, after, made, either, seq, past, bracket, many, listed}

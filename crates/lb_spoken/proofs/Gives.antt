@@ -1,5 +1,5 @@
 -- What holds of everything that a language spells, by what holds of its parts.
-use Rattle.std.proofs.Common.{◌≡◌, ℕ, ◌+◌, ◌≤◌, List, [], ◌∷◌, ◌++◌, length, Option, Some, None, sym, subst, arith}
+use Rattle.std.proofs.Common.{ℕ, ◌+◌, ◌≤◌, List, [], ◌∷◌, ◌++◌, length, Option, Some, None, sym, subst, arith}
 use Rattle.std.specs.List.{AllByRecursion}
 use Rattle.lb_stmt.specs.declared.write.Stmt.{Stmt}
 use Rattle.lb_tok.specs.declared.token.Token.{Token}

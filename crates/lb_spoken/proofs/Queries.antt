@@ -1,5 +1,5 @@
 -- The DATE literals of queries that the grammar spells are days.
-use Rattle.std.proofs.Common.{ℕ, zero, suc, List, [], ◌∷◌}
+use Rattle.std.proofs.Common.{ℕ, zero, suc}
 use Rattle.std.specs.List.{AllByRecursion}
 use Rattle.lb_tree.specs.declared.query.Cond.{Cond}
 use Rattle.lb_tree.specs.declared.query.Tab.{Tab}

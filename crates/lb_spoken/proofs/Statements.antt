@@ -12,13 +12,13 @@ use Rattle.lb_stmt.specs.declared.change.Change.{Change}
 use Rattle.lb_stmt.specs.declared.write.Stmt.{Stmt}
 use Rattle.lb_stmt.specs.declared.write.Stmt.TheVariants as stmts
 use Rattle.lb_tok.specs.Form.{Below}
-use Rattle.lb_tok.specs.Grammar.{IsSelect, IsRow, IsSource, IsInsert, IsAssignment, IsUpdate, level}
+use Rattle.lb_tok.specs.Grammar.{IsSelect, IsRow, IsSource, IsInsert, IsAssignment, IsUpdate}
 use Rattle.lb_tok.specs.Changes.{IsPermission, IsMask, IsCreateTable, IsCreateLabel, IsCreatePolicy, IsCreate, IsAdded, IsAlteredColumn, IsAlterTable, IsAlter, IsDropLabel, IsDrop, IsGrant, IsRevoke, IsChange, IsStmt}
 use Rattle.lb_tok.specs.Spelled.{IsSpoken}
 use Rattle.lb_kinds.specs.Days.{days_in, days_in_cond, days_in_query, AreDays}
 use Rattle.lb_fits.specs.Statements.{SourceHasDays, WritesDays}
 use Rattle.lb_spoken.specs.Laws.{DefinesDays}
-use Rattle.lb_spoken.proofs.Gives.{Gives, anything, nothing, means, after, made, either, seq, past, bracket, listed, spoken_gives}
+use Rattle.lb_spoken.proofs.Gives.{Gives, anything, means, after, made, either, seq, past, bracket, listed, spoken_gives}
 use Rattle.lb_spoken.proofs.Trees.{CondHas, Has, QueryHas}
 use Rattle.lb_spoken.proofs.Terms.{Inside, step, expr_has, case_has}
 use Rattle.lb_spoken.proofs.Conditions.{cond_has}

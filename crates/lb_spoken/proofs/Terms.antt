@@ -1,18 +1,14 @@
 -- The DATE literals of expressions that the grammar spells are days.
 use Rattle.std.proofs.Common.{false, List, [], ◌∷◌}
 use Rattle.std.specs.List.{AllByRecursion}
-use Rattle.lb_tree.specs.declared.query.Atom.{Atom}
 use Rattle.lb_tree.specs.declared.query.Atom.TheVariants as atoms
 use Rattle.lb_tree.specs.declared.query.Expr.{Expr}
-use Rattle.lb_tree.specs.declared.query.Expr.TheVariants as exprs
 use Rattle.lb_tree.specs.declared.query.Signed.{Signed}
 use Rattle.lb_tok.specs.declared.call.Call.{Call}
 use Rattle.lb_tok.specs.declared.call.Call.TheVariants as calls
-use Rattle.lb_tok.specs.declared.kind.Kind.TheVariants as kinds
 use Rattle.lb_tok.specs.Form.{Below, Lang}
-use Rattle.lb_tok.specs.Grammar.{sums, concats, products, InExpr, InCond, InQuery, IsArm, IsChoice, IsElse, IsArms, IsChoices, IsCase, IsCounted, IsParted, IsFirstOf, IsShown, IsArguments, IsCall, IsNumber, IsToday, IsLiteral, IsFact, IsTerm, IsConcat, IsSigned, IsExpr}
-use Rattle.lb_kinds.specs.Days.{AreDays}
-use Rattle.lb_spoken.proofs.Gives.{Gives, IfGiven, anything, nothing, means, after, made, either, seq, past, bracket, many, listed, optional}
+use Rattle.lb_tok.specs.Grammar.{sums, concats, products, InExpr, InCond, InQuery, IsArm, IsChoice, IsElse, IsArms, IsChoices, IsCase, IsCounted, IsParted, IsFirstOf, IsArguments, IsCall, IsNumber, IsToday, IsLiteral, IsFact, IsTerm, IsConcat, IsSigned, IsExpr}
+use Rattle.lb_spoken.proofs.Gives.{Gives, IfGiven, anything, means, after, made, either, seq, past, bracket, many, listed, optional}
 use Rattle.lb_spoken.proofs.Dates.{literal_is_day}
 use Rattle.lb_spoken.proofs.Trees.{CondHas, Has, ArmHas, ChoiceHas, QueryHas, SignedHas, atom_days, sum_days, concat_days, product_days, case_days, match_days, aggregate_days, substr_days, apply_days, coalesce_days, arm_days, choice_days, signed_days}
 

@@ -1,8 +1,7 @@
 -- The DATE literals of a tree are days where those of its parts are.
-use Rattle.std.proofs.Common.{◌≡◌, refl, sym, ap, subst, ◌∙◌, ℕ, List, [], ◌∷◌, ◌++◌, map, Bool, Option, Some, None, ℤ}
+use Rattle.std.proofs.Common.{◌≡◌, refl, sym, subst, ◌∙◌, ℕ, List, [], ◌∷◌, ◌++◌, map, Bool, Option, Some, None}
 use Rattle.std.specs.List.{AllByRecursion}
 use Rattle.std.specs.Option.{option_map}
-use Rattle.lb_base.specs.Days.{IsDay}
 use Rattle.lb_tree.specs.declared.query.Cond.{Cond}
 use Rattle.lb_tree.specs.declared.query.Expr.{Expr}
 use Rattle.lb_tree.specs.declared.query.Item.{Item}
@@ -14,7 +13,6 @@ use Rattle.lb_tree.specs.declared.query.Query.{Query}
 use Rattle.lb_tree.specs.declared.query.Signed.{Signed}
 use Rattle.lb_tree.specs.declared.query.Aggregate.{Aggregate}
 use Rattle.lb_tree.specs.declared.query.Atom.{Atom}
-use Rattle.lb_tree.specs.declared.query.Atom.TheVariants as atoms
 use Rattle.lb_tree.specs.declared.query.Column.{Column}
 use Rattle.lb_tree.specs.declared.query.Comparison.{Comparison}
 use Rattle.lb_tree.specs.declared.query.Function.{Function}
@@ -32,8 +30,8 @@ use Rattle.lb_spoken.proofs.Gives.{IfGiven}
 -- ---- lists of days
 
 join_days : (a b : Days) → AreDays a → AreDays b → AreDays (a ++ b)
-join_days [] b p q = q
-join_days (x ∷ a) b p q = (p.0, join_days a b p.1 q)
+join_days [] b p in_query = in_query
+join_days (x ∷ a) b p in_query = (p.0, join_days a b p.1 in_query)
 
 each_days : {A : Type 0} (f : A → Days) (xs : List A) → AllByRecursion (λ x. AreDays (f x)) xs → AreDays (all_of (map f xs))
 each_days f [] p = tt
@@ -72,14 +70,14 @@ QueryHas x = AreDays (query_of writing day_steps x)
 abbrev pub SignedHas : Signed → Type 0
 SignedHas x = AreDays (signed_of writing day_steps x)
 
-abbrev e : Expr → Days
-e x = expr_of writing day_steps x
+abbrev in_expr : Expr → Days
+in_expr x = expr_of writing day_steps x
 
-abbrev c : Cond → Days
-c x = cond_of writing day_steps x
+abbrev in_cond : Cond → Days
+in_cond x = cond_of writing day_steps x
 
-abbrev q : Query → Days
-q x = query_of writing day_steps x
+abbrev in_query : Query → Days
+in_query x = query_of writing day_steps x
 
 -- ---- expressions
 
@@ -90,34 +88,34 @@ pub sum_days : (xs : List Signed) → AllByRecursion SignedHas xs → Has (exprs
 sum_days xs p = subst AreDays (sym (expr_sum writing day_steps xs)) (each_days (signed_of writing day_steps) xs p)
 
 pub concat_days : (xs : List Expr) → AllByRecursion Has xs → Has (exprs.Concat xs)
-concat_days xs p = subst AreDays (sym (expr_concat writing day_steps xs)) (each_days e xs p)
+concat_days xs p = subst AreDays (sym (expr_concat writing day_steps xs)) (each_days in_expr xs p)
 
 pub product_days : (xs : List Expr) → AllByRecursion Has xs → Has (exprs.Product xs)
-product_days xs p = subst AreDays (sym (expr_product writing day_steps xs)) (each_days e xs p)
+product_days xs p = subst AreDays (sym (expr_product writing day_steps xs)) (each_days in_expr xs p)
 
 pub case_days : (arms : List Arm) (x : Option Expr) → AllByRecursion ArmHas arms → IfGiven Has x → Has (exprs.Case arms x)
-case_days arms x p r = subst AreDays (sym (expr_case writing day_steps arms x)) (join_days _ _ (each_days (arm_of writing day_steps) arms p) (given_days e x r))
+case_days arms x p r = subst AreDays (sym (expr_case writing day_steps arms x)) (join_days _ _ (each_days (arm_of writing day_steps) arms p) (given_days in_expr x r))
 
 pub match_days : (v : Expr) (choices : List Choice) (x : Option Expr) → Has v → AllByRecursion ChoiceHas choices → IfGiven Has x → Has (exprs.Match v choices x)
-match_days v choices x h p r = subst AreDays (sym (expr_match writing day_steps v choices x)) (join_days (e v) _ h (join_days _ _ (each_days (choice_of writing day_steps) choices p) (given_days e x r)))
+match_days v choices x h p r = subst AreDays (sym (expr_match writing day_steps v choices x)) (join_days (in_expr v) _ h (join_days _ _ (each_days (choice_of writing day_steps) choices p) (given_days in_expr x r)))
 
 pub aggregate_days : (a : Aggregate) (x : Expr) → Has x → Has (exprs.Aggregate a x)
 aggregate_days a x p = subst AreDays (sym (expr_aggregate writing day_steps a x)) p
 
 pub substr_days : (x y : Expr) (z : Option Expr) → Has x → Has y → IfGiven Has z → Has (exprs.Substr x y z)
-substr_days x y z p r s = subst AreDays (sym (expr_substr writing day_steps x y z)) (join_days (e x) _ p (join_days (e y) _ r (given_days e z s)))
+substr_days x y z p r s = subst AreDays (sym (expr_substr writing day_steps x y z)) (join_days (in_expr x) _ p (join_days (in_expr y) _ r (given_days in_expr z s)))
 
 pub apply_days : (f : Function) (x : Expr) → Has x → Has (exprs.Apply f x)
 apply_days f x p = subst AreDays (sym (expr_apply writing day_steps f x)) p
 
 pub coalesce_days : (xs : List Expr) → AllByRecursion Has xs → Has (exprs.Coalesce xs)
-coalesce_days xs p = subst AreDays (sym (expr_coalesce writing day_steps xs)) (each_days e xs p)
+coalesce_days xs p = subst AreDays (sym (expr_coalesce writing day_steps xs)) (each_days in_expr xs p)
 
 pub arm_days : (when : Cond) (result : Expr) → CondHas when → Has result → ArmHas (record { when = when; result = result })
-arm_days when result p r = subst AreDays (sym (arm_out writing day_steps (record { when = when; result = result }))) (join_days (c when) (e result) p r)
+arm_days when result p r = subst AreDays (sym (arm_out writing day_steps (record { when = when; result = result }))) (join_days (in_cond when) (in_expr result) p r)
 
 pub choice_days : (when result : Expr) → Has when → Has result → ChoiceHas (record { when = when; result = result })
-choice_days when result p r = subst AreDays (sym (choice_out writing day_steps (record { when = when; result = result }))) (join_days (e when) (e result) p r)
+choice_days when result p r = subst AreDays (sym (choice_out writing day_steps (record { when = when; result = result }))) (join_days (in_expr when) (in_expr result) p r)
 
 pub signed_days : (minus : Bool) (x : Expr) → Has x → SignedHas (record { minus = minus; part = x })
 signed_days minus x p = subst AreDays (sym (signed_out writing day_steps (record { minus = minus; part = x }))) p
@@ -125,10 +123,10 @@ signed_days minus x p = subst AreDays (sym (signed_out writing day_steps (record
 -- ---- conditions
 
 pub or_days : (xs : List Cond) → AllByRecursion CondHas xs → CondHas (conds.Or xs)
-or_days xs p = subst AreDays (sym (cond_or writing day_steps xs)) (each_days c xs p)
+or_days xs p = subst AreDays (sym (cond_or writing day_steps xs)) (each_days in_cond xs p)
 
 pub and_days : (xs : List Cond) → AllByRecursion CondHas xs → CondHas (conds.And xs)
-and_days xs p = subst AreDays (sym (cond_and writing day_steps xs)) (each_days c xs p)
+and_days xs p = subst AreDays (sym (cond_and writing day_steps xs)) (each_days in_cond xs p)
 
 pub not_days : (x : Cond) → CondHas x → CondHas (conds.Not x)
 not_days x p = subst AreDays (sym (cond_not writing day_steps x)) p
@@ -137,22 +135,22 @@ pub exists_days : (x : Query) → QueryHas x → CondHas (conds.Exists x)
 exists_days x p = subst AreDays (sym (cond_exists writing day_steps x)) p
 
 pub compare_days : (by : Comparison) (x y : Expr) → Has x → Has y → CondHas (conds.Compare by x y)
-compare_days by x y p r = subst AreDays (sym (cond_compare writing day_steps by x y)) (join_days (e x) (e y) p r)
+compare_days by x y p r = subst AreDays (sym (cond_compare writing day_steps by x y)) (join_days (in_expr x) (in_expr y) p r)
 
 pub comparequery_days : (by : Comparison) (x : Expr) (y : Query) → Has x → QueryHas y → CondHas (conds.CompareQuery by x y)
-comparequery_days by x y p r = subst AreDays (sym (cond_comparequery writing day_steps by x y)) (join_days (e x) (q y) p r)
+comparequery_days by x y p r = subst AreDays (sym (cond_comparequery writing day_steps by x y)) (join_days (in_expr x) (in_query y) p r)
 
 pub isnull_days : (x : Expr) → Has x → CondHas (conds.IsNull x)
 isnull_days x p = subst AreDays (sym (cond_isnull writing day_steps x)) p
 
 pub inquery_days : (x : Expr) (y : Query) → Has x → QueryHas y → CondHas (conds.InQuery x y)
-inquery_days x y p r = subst AreDays (sym (cond_inquery writing day_steps x y)) (join_days (e x) (q y) p r)
+inquery_days x y p r = subst AreDays (sym (cond_inquery writing day_steps x y)) (join_days (in_expr x) (in_query y) p r)
 
 pub inlist_days : (x : Expr) (ys : List Expr) → Has x → AllByRecursion Has ys → CondHas (conds.InList x ys)
-inlist_days x ys p r = subst AreDays (sym (cond_inlist writing day_steps x ys)) (join_days (e x) _ p (each_days e ys r))
+inlist_days x ys p r = subst AreDays (sym (cond_inlist writing day_steps x ys)) (join_days (in_expr x) _ p (each_days in_expr ys r))
 
 pub between_days : (x y z : Expr) → Has x → Has y → Has z → CondHas (conds.Between x y z)
-between_days x y z p r s = subst AreDays (sym (cond_between writing day_steps x y z)) (join_days (e x) _ p (join_days (e y) (e z) r s))
+between_days x y z p r s = subst AreDays (sym (cond_between writing day_steps x y z)) (join_days (in_expr x) _ p (join_days (in_expr y) (in_expr z) r s))
 
 -- ---- queries
 
@@ -178,7 +176,7 @@ pub chain_days : (t : Tab) (js : List Join) → AllByRecursion JoinHas js → Ch
 chain_days t js p = subst AreDays (sym (chain_roll writing day_steps (record { first = t; joins = js }))) (each_days (join_of writing day_steps) js p)
 
 abbrev asked : List Item → List Chain → Option Cond → Option Cond → Days
-asked is cs filter having = all_of (map (item_of writing day_steps) is) ++ (all_of (map (chain_of writing day_steps) cs) ++ (if_given (option_map c filter) ++ if_given (option_map c having)))
+asked is cs filter having = all_of (map (item_of writing day_steps) is) ++ (all_of (map (chain_of writing day_steps) cs) ++ (if_given (option_map in_cond filter) ++ if_given (option_map in_cond having)))
 
 opened : (d : Bool) (is : List Item) (cs : List Chain) (filter : Option Cond) (group : List Column) (having : Option Cond)
     → in_query_layer (query_layer writing day_steps (record { distinct = d; items = is; from = cs; filter = filter; group = group; having = having })) ≡ asked is cs filter having
@@ -192,4 +190,4 @@ pub query_days : (d : Bool) (is : List Item) (cs : List Chain) (filter : Option 
     → QueryHas (roll-Query (record { distinct = d; items = is; from = cs; filter = filter; group = group; having = having }))
 query_days d is cs filter group having i f w h =
     subst AreDays (sym (query_roll writing day_steps (record { distinct = d; items = is; from = cs; filter = filter; group = group; having = having }) ∙ opened d is cs filter group having))
-    (join_days _ _ (each_days (item_of writing day_steps) is i) (join_days _ _ (each_days (chain_of writing day_steps) cs f) (join_days _ _ (given_days c filter w) (given_days c having h))))
+    (join_days _ _ (each_days (item_of writing day_steps) is i) (join_days _ _ (each_days (chain_of writing day_steps) cs f) (join_days _ _ (given_days in_cond filter w) (given_days in_cond having h))))
