@@ -6,3 +6,4 @@ mod Terms
 mod Conditions
 mod Queries
 mod Statements
+mod Filters

@@ -24,15 +24,15 @@ use Rattle.lb_spoken.proofs.Terms.{Inside, step, expr_has, case_has}
 use Rattle.lb_spoken.proofs.Conditions.{cond_has}
 use Rattle.lb_spoken.proofs.Queries.{query_has, inside}
 
-expr_days : (e : Expr) → Has e → AreDays (days_in e)
+pub expr_days : (e : Expr) → Has e → AreDays (days_in e)
 unfolding days_in
 expr_days e p = p
 
-cond_days : (c : Cond) → CondHas c → AreDays (days_in_cond c)
+pub cond_days : (c : Cond) → CondHas c → AreDays (days_in_cond c)
 unfolding days_in_cond
 cond_days c p = p
 
-query_days : (q : Query) → QueryHas q → AreDays (days_in_query q)
+pub query_days : (q : Query) → QueryHas q → AreDays (days_in_query q)
 unfolding days_in_query
 query_days q p = p
 

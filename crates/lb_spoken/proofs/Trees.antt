@@ -30,8 +30,8 @@ use Rattle.lb_spoken.proofs.Gives.{IfGiven}
 -- ---- lists of days
 
 join_days : (a b : Days) → AreDays a → AreDays b → AreDays (a ++ b)
-join_days [] b p in_query = in_query
-join_days (x ∷ a) b p in_query = (p.0, join_days a b p.1 in_query)
+join_days [] b p r = r
+join_days (x ∷ a) b p r = (p.0, join_days a b p.1 r)
 
 each_days : {A : Type 0} (f : A → Days) (xs : List A) → AllByRecursion (λ x. AreDays (f x)) xs → AreDays (all_of (map f xs))
 each_days f [] p = tt
