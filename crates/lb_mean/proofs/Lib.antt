@@ -8,3 +8,5 @@ pub mod Meant
 pub mod Seen
 pub mod Across
 pub mod Stable
+pub mod Sessions
+pub mod Holding
