@@ -4,3 +4,4 @@ mod Fit
 mod Refusing
 pub mod Framed
 mod Left
+pub mod Sessions
