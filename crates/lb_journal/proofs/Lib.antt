@@ -6,3 +6,5 @@ pub mod Lasting
 pub mod Writes
 pub mod Agreeing
 pub mod Answering
+pub mod Mentioned
+pub mod Again
