@@ -8,3 +8,5 @@ pub mod Agreeing
 pub mod Answering
 pub mod Steady
 pub mod Wider
+pub mod Mentioned
+pub mod Again

@@ -9,7 +9,7 @@ ghost use Rattle.lb_journal.specs.State.{State};
 ghost use Rattle.lb_journal.specs.Replay.{Replay, Rep};
 ghost use Rattle.lb_journal.specs.Roots.{root};
 ghost use Rattle.lb_journal.specs.Engine.{RightGives};
-ghost use Rattle.lb_journal.specs.Lasting.{AnswerStays, RightLasts, WriteDependenciesLast};
+ghost use Rattle.lb_journal.specs.Lasting.{AnswerStays, RightLasts, WriteDependenciesLast, WritesAgain};
 ghost use Rattle.lb_journal.specs.Rules.{stored_rules};
 ghost use Rattle.lb_journal.specs.Steadiness.{KeepsMaskMentions, KeepsMentions, MaskMentionsStand, MentionsStand, OutlastsColumns, OutlastsColumnsInMask, OutlastsLabels, OutlastsLabelsInMask, ReadsNoMore, ReadsNoMoreInMask};
 ghost use Rattle.lb_journal.specs.Laws.{AbsentIsZero, HasOneReplay, HasOneReply, SameStampSameRecord, StampsTell};
@@ -62,6 +62,12 @@ pub fn right_plans_last<E: Engine>()
 /// rows, and the session's credentials are the same so far as these keys decide them.
 pub fn write_dependencies_last()
     ensures { WriteDependenciesLast }
+{}
+
+/// Where no stamp of what the commit of a write depends on moves, the write of the same user with the same groups, on the same day,
+/// is answered as before, and leaves the same rows.
+pub fn written_again()
+    ensures { WritesAgain }
 {}
 
 /// The rules for stored conditions: they read no more than what a condition depends on; the qualified form mentions what the
