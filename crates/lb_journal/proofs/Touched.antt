@@ -1,5 +1,5 @@
 -- A stamp is one more than the last place that touches its key: the proof of the law `stamps_are_last_touches`.
-use Rattle.std.proofs.Common.{◌≡◌, ◌⊎◌, inl, inr, refl, sym, ap, subst, ◌∙◌, ℕ, zero, suc, ◌+◌, ◌<◌, ◌≤◌, Bool, true, false, List, [], ◌∷◌, take, drop, Option, Some, arith}
+use Rattle.std.proofs.Common.{◌≡◌, ◌⊎◌, inl, inr, refl, sym, ap, subst, ◌∙◌, ℕ, zero, suc, ◌+◌, ◌<◌, ◌≤◌, Bool, true, false, List, [], ◌∷◌, take, drop, Some, arith}
 use Rattle.std.specs.Prelude.{slice_get}
 use Rattle.lb_base.specs.declared.key.Key.{Key}
 use Rattle.lb_stmt.specs.declared.write.Stmt.{Stmt}
@@ -34,15 +34,16 @@ Traced n S J T k = (T.stamp k ≡ 0) ⊎ (T.stamp k ≡ S.stamp k) ⊎ ((i : ℕ
 -- one entry more in front
 within_more : (n : ℕ) (S : State) (e : Entry) (U : State) (es : List Entry) (T : State) (k : Key) (i : ℕ) → Steps n S e U → Within (n + 1) U es T k i → Within n S (e ∷ es) T k (suc i)
 within_more n S e U es T k i s w =
-    record
-      { state = w.state
-      ; before = (U, s, w.before)
-      ; said = w.said
-      ; there = w.there
-      ; stmt = w.stmt
-      ; speaks = w.speaks
-      ; touches = w.touches
-      ; rest = subst (λ (m : ℕ). Runs (n + suc i + 1) (after (n + suc i) w.state w.said.user w.said.groups w.said.day w.stmt) (drop m (e ∷ es)) T) dropped moved }
+    record {
+      state = w.state;
+      before = (U, s, w.before);
+      said = w.said;
+      there = w.there;
+      stmt = w.stmt;
+      speaks = w.speaks;
+      touches = w.touches;
+      rest = subst (λ (m : ℕ). Runs (n + suc i + 1) (after (n + suc i) w.state w.said.user w.said.groups w.said.day w.stmt) (drop m (e ∷ es)) T) dropped moved;
+    }
   where
     dropped : suc (i + 1) ≡ suc i + 1
     dropped = omega arith
@@ -60,8 +61,8 @@ stamp_by at d S k = go (is_there d.cat d.tables k) (has_key k d.touched) refl re
   where
     go : (there touched : Bool) → is_there d.cat d.tables k ≡ there → has_key k d.touched ≡ touched
         → (stamp_after (is_there d.cat d.tables k) (has_key k d.touched) at (S.stamp k) ≡ 0)
-          ⊎ (stamp_after (is_there d.cat d.tables k) (has_key k d.touched) at (S.stamp k) ≡ S.stamp k)
-          ⊎ ((stamp_after (is_there d.cat d.tables k) (has_key k d.touched) at (S.stamp k) ≡ at + 1) × (has_key k d.touched ≡ true))
+        ⊎ (stamp_after (is_there d.cat d.tables k) (has_key k d.touched) at (S.stamp k) ≡ S.stamp k)
+        ⊎ ((stamp_after (is_there d.cat d.tables k) (has_key k d.touched) at (S.stamp k) ≡ at + 1) × (has_key k d.touched ≡ true))
     go true true e f = inr (inr (ap (λ (b : Bool). stamp_after b (has_key k d.touched) at (S.stamp k)) e ∙ ap (λ (b : Bool). stamp_after true b at (S.stamp k)) f, f))
     go true false e f = inr (inl (ap (λ (b : Bool). stamp_after b (has_key k d.touched) at (S.stamp k)) e ∙ ap (λ (b : Bool). stamp_after true b at (S.stamp k)) f))
     go false touched e f = inl (ap (λ (b : Bool). stamp_after b (has_key k d.touched) at (S.stamp k)) e)
@@ -76,20 +77,25 @@ entry_traced n S (entries.Said d) U J T k s r same = go (stamp_by n (step S d.us
     now = same ∙ ap (λ (V : State). V.stamp k) s.2
 
     go : ((after n S d.user d.groups d.day s.0).stamp k ≡ 0) ⊎ ((after n S d.user d.groups d.day s.0).stamp k ≡ S.stamp k)
-          ⊎ (((after n S d.user d.groups d.day s.0).stamp k ≡ n + 1) × (has_key k (step S d.user d.groups d.day s.0).touched ≡ true))
+        ⊎ (((after n S d.user d.groups d.day s.0).stamp k ≡ n + 1) × (has_key k (step S d.user d.groups d.day s.0).touched ≡ true))
         → (T.stamp k ≡ 0) ⊎ (T.stamp k ≡ S.stamp k) ⊎ ((i : ℕ) × (T.stamp k ≡ n + i + 1) × Within n S (entries.Said d ∷ J) T k i)
     go (inl z) = inl (now ∙ z)
     go (inr (inl o)) = inr (inl (now ∙ o))
     go (inr (inr t)) =
-        inr (inr (0, (let p = now ∙ t.0 in omega (arith, p)), record
-          { state = S
-          ; before = refl
-          ; said = d
-          ; there = refl
-          ; stmt = s.0
-          ; speaks = s.1
-          ; touches = t.1
-          ; rest = subst (λ (p : ℕ). Runs (p + 1) (after p S d.user d.groups d.day s.0) J T) (omega arith) (subst (λ (V : State). Runs (n + 1) V J T) s.2 r) }))
+        inr (inr (
+          0,
+          (let p = now ∙ t.0 in omega (arith, p)),
+          record {
+            state = S;
+            before = refl;
+            said = d;
+            there = refl;
+            stmt = s.0;
+            speaks = s.1;
+            touches = t.1;
+            rest = subst (λ (p : ℕ). Runs (p + 1) (after p S d.user d.groups d.day s.0) J T) (omega arith) (subst (λ (V : State). Runs (n + 1) V J T) s.2 r);
+          },
+        ))
 
 traced : (n : ℕ) (S : State) (J : List Entry) (T : State) (k : Key) → Runs n S J T → Traced n S J T k
 unfolding Traced
@@ -103,15 +109,16 @@ traced n S (e ∷ es) T k h = go (traced (n + 1) h.0 es T k h.2)
 
 touches_there : (J : List Entry) (S : State) (k : Key) (i : ℕ) → Within 0 first J S k i → Touches J S k i
 touches_there J S k i w =
-    record
-      { state = w.state
-      ; before = w.before
-      ; said = w.said
-      ; there = w.there
-      ; stmt = w.stmt
-      ; speaks = w.speaks
-      ; touches = w.touches
-      ; rest = subst (λ (p : ℕ). Runs (p + 1) (after p w.state w.said.user w.said.groups w.said.day w.stmt) (drop (i + 1) J) S) (omega arith) w.rest }
+    record {
+      state = w.state;
+      before = w.before;
+      said = w.said;
+      there = w.there;
+      stmt = w.stmt;
+      speaks = w.speaks;
+      touches = w.touches;
+      rest = subst (λ (p : ℕ). Runs (p + 1) (after p w.state w.said.user w.said.groups w.said.day w.stmt) (drop (i + 1) J) S) (omega arith) w.rest;
+    }
 
 -- where a stamp is above 0, the place before it touches the key
 touched_at : (J : List Entry) (S : State) (k : Key) (at : ℕ) → Replay J S → S.stamp k ≡ suc at → Touches J S k at
@@ -143,7 +150,7 @@ touch_recent : (at : ℕ) (S : State) (d : Changed) (k : Key) → has_key k d.to
 unfolding IsRecent
 touch_recent at S d k touched there =
     let e : stamp_after (is_there d.cat d.tables k) (has_key k d.touched) at (S.stamp k) ≡ at + 1
-          = ap (λ (b : Bool). stamp_after b (has_key k d.touched) at (S.stamp k)) there ∙ ap (λ (b : Bool). stamp_after true b at (S.stamp k)) touched in
+    = ap (λ (b : Bool). stamp_after b (has_key k d.touched) at (S.stamp k)) there ∙ ap (λ (b : Bool). stamp_after true b at (S.stamp k)) touched in
     omega (arith, e)
 
 -- where a place touches the key, which is there, the stamp is above that place
@@ -151,7 +158,7 @@ stamp_above : (J : List Entry) (S : State) (k : Key) (at : ℕ) → Touches J S 
 unfolding IsRecent
 stamp_above J S k at t there =
     all_recent at (at + 1) (after at t.state t.said.user t.said.groups t.said.day t.stmt) (drop (at + 1) J) S k t.rest (omega arith)
-      (touch_recent at t.state (step t.state t.said.user t.said.groups t.said.day t.stmt) k t.touches) there
+    (touch_recent at t.state (step t.state t.said.user t.said.groups t.said.day t.stmt) k t.touches) there
 
 -- ---- so the stamp is one more than the last touch
 
