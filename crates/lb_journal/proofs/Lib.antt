@@ -2,6 +2,7 @@ pub mod One
 pub mod Roots
 pub mod Stamps
 pub mod There
+pub mod Touched
 pub mod Lasting
 pub mod Writes
 pub mod Agreeing

@@ -8,6 +8,7 @@ ghost use Rattle.lb_journal.specs.Journal.{IsMade};
 ghost use Rattle.lb_journal.specs.State.{State};
 ghost use Rattle.lb_journal.specs.Replay.{Replay, Rep};
 ghost use Rattle.lb_journal.specs.Roots.{root};
+ghost use Rattle.lb_journal.specs.Touched.{StampsAreLastTouches, HasOneStamp};
 ghost use Rattle.lb_journal.specs.Engine.{RightGives};
 ghost use Rattle.lb_journal.specs.Lasting.{AnswerStays, RightLasts, WriteDependenciesLast, WritesAgain};
 ghost use Rattle.lb_journal.specs.Rules.{stored_rules};
@@ -44,6 +45,13 @@ pub fn stamps_tell()
     ensures absent { AbsentIsZero }
     ensures there { StampsTell }
     ensures same { SameStampSameRecord }
+{}
+
+/// A stamp is one more than the last place that touches its key, where the key is there; and 0 where it isn't there or no place
+/// touches it. No other number is.
+pub fn stamps_are_last_touches()
+    ensures last { StampsAreLastTouches }
+    ensures one { HasOneStamp }
 {}
 
 /// Two sound catalogues with the same records under what a statement depends on answer it alike, for each session, tables and day.
