@@ -1,0 +1,4 @@
+mod Wrote
+mod Writes
+mod DaysKept
+mod Qualified
