@@ -2,3 +2,6 @@ mod Wrote
 mod Writes
 mod DaysKept
 mod Qualified
+mod Kept
+mod Changes
+mod Steps

@@ -3,4 +3,6 @@
 
 mod laws;
 
-pub use laws::{first_is_standing, writes_stay_standing};
+pub use laws::{
+    changes_stay_standing, first_is_standing, replays_are_standing, steps_stay_standing, writes_stay_standing,
+};
