@@ -1,0 +1,7 @@
+mod Wrote
+mod Writes
+mod DaysKept
+mod Qualified
+mod Kept
+mod Changes
+mod Steps
