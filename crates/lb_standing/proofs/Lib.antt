@@ -3,5 +3,6 @@ mod Writes
 mod DaysKept
 mod Qualified
 mod Kept
+mod ChangedTables
 mod Changes
 mod Steps

@@ -1,10 +1,6 @@
 -- Every statement keeps that what stands is sound and its tables fit, and so what a journal leaves is so.
-use Rattle.std.proofs.Common.{ℕ, ℤ, ◌≡◌, ◌+◌, ◌++◌, sym, subst, List, [], ◌∷◌}
-use Rattle.lb_base.specs.Days.{IsDay}
-use Rattle.lb_stmt.specs.declared.change.Change.{Change}
-use Rattle.lb_stmt.specs.declared.write.Stmt.{Stmt}
+use Rattle.std.proofs.Common.{ℕ, ◌+◌, ◌++◌, sym, subst, List, [], ◌∷◌}
 use Rattle.lb_stmt.specs.declared.write.Stmt.TheVariants as stmts
-use Rattle.lb_tok.specs.Spelled.{IsSpoken}
 use Rattle.lb_cat.specs.declared.entry.Entry.{Entry}
 use Rattle.lb_cat.specs.declared.entry.Entry.TheVariants as entries
 use Rattle.lb_alter.specs.Laws.{StaysSound, TablesStayFit}

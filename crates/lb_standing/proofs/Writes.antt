@@ -1,29 +1,24 @@
 -- A query or a write keeps that what stands is sound and its tables fit.
 use Rattle.std.proofs.Common.{ℕ, ℤ, ◌≡◌, refl, sym, subst, ap, ◌∙◌, true, false, List, [], ◌∷◌, map, Option, Some, None, is_some}
-use Rattle.std.specs.Prelude.{find, option_map}
-use Rattle.std.specs.List.{AllByRecursion, AllZip}
+use Rattle.std.specs.Prelude.{option_map}
+use Rattle.std.specs.List.{AllZip}
 use Rattle.lb_base.specs.Days.{IsDay}
-use Rattle.lb_base.specs.declared.key.Key.{Key}
 use Rattle.lb_base.specs.declared.key.Ty.{Ty}
 use Rattle.lb_base.specs.declared.key.Ty.TheVariants as types
-use Rattle.lb_tree.specs.declared.query.Expr.{Expr}
-use Rattle.lb_tree.specs.declared.query.Tab.{Tab}
 use Rattle.lb_stmt.specs.declared.write.Stmt.{Stmt}
 use Rattle.lb_stmt.specs.declared.write.Stmt.TheVariants as stmts
 use Rattle.lb_tok.specs.Spelled.{IsSpoken}
 use Rattle.lb_cat.specs.declared.catalog.ColumnRec.{ColumnRec}
-use Rattle.lb_cat.specs.declared.cred.Cred.{Cred}
 use Rattle.lb_cat.specs.Catalog.{Cat, Table, table_named}
 use Rattle.lb_cat.specs.Credentials.{cred}
-use Rattle.lb_names.specs.Scopes.{Field, listed}
+use Rattle.lb_names.specs.Scopes.{listed}
 use Rattle.lb_names.specs.Statements.{mask_types_refused}
 use Rattle.lb_rows.specs.Tables.{Tables, Version, put_version, rows_in, rows_of}
 use Rattle.lb_answer.specs.Answer.{Answered}
-use Rattle.lb_alter.specs.Fits.{CredFits}
-use Rattle.lb_alter.specs.Laws.{AllTablesFit, CredentialsFit}
+use Rattle.lb_alter.specs.Laws.{CredentialsFit}
 use Rattle.lb_alter.specs.Named.{HasTable}
 use Rattle.lb_alter.proofs.SoundTables.{put_case}
-use Rattle.lb_kinds.specs.Settings.{kind_of, SameColumn, MasksFit, columns_in}
+use Rattle.lb_kinds.specs.Settings.{kind_of, SameColumn, columns_in}
 use Rattle.lb_fits.specs.Masks.{RefusesUntypedMasks, SoundMasksFit}
 use Rattle.lb_fits.specs.Statements.{FitsAreKnown, IsReady, WritesFit}
 use Rattle.lb_spoken.specs.Laws.{StatementsHaveDays}

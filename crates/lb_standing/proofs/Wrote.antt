@@ -1,5 +1,5 @@
 -- Rows are left only by a write that was not refused, in a table that is there.
-use Rattle.std.proofs.Common.{ℕ, ℤ, ◌≡◌, refl, sym, subst, ap, List, [], ◌∷◌, Option, Some, None, Ok, Err, is_some, true, ◌++◌}
+use Rattle.std.proofs.Common.{ℕ, ℤ, ◌≡◌, refl, subst, ap, List, [], ◌∷◌, Option, Some, None, Ok, Err, is_some, true, ◌++◌}
 use Rattle.std.specs.List.{flat_map}
 use Rattle.std.specs.Option.{option_or}
 use Rattle.lb_stmt.specs.declared.write.Stmt.{Stmt}
@@ -12,7 +12,6 @@ use Rattle.lb_cat.specs.declared.reply.Verb.TheVariants as verbs
 use Rattle.lb_cat.specs.Catalog.{Cat, Table, table_named}
 use Rattle.lb_names.specs.Mentions.{in_assignment, in_source, in_where}
 use Rattle.lb_names.specs.Statements.{names_refused, types_refused}
-use Rattle.lb_names.specs.declared.refused.Refused.{Refused}
 use Rattle.lb_rows.specs.Tables.{Tables, Version}
 use Rattle.lb_mean.specs.Answer.{Checks}
 use Rattle.lb_mean.specs.Refused.{first_some}
@@ -21,7 +20,7 @@ use Rattle.lb_answer.specs.Before.{privileges_refused, source_reads_refused, wri
 use Rattle.lb_answer.specs.OrRefused.{OrRefused}
 use Rattle.lb_answer.specs.Writes.{Written}
 use Rattle.lb_alter.specs.Named.{HasTable}
-use Rattle.lb_journal.specs.Rules.{named_in, statement_refused, refusal_for}
+use Rattle.lb_journal.specs.Rules.{named_in, statement_refused}
 use Rattle.lb_journal.proofs.Steady.{none_told}
 
 -- the table in which rows are left is there, and the test refused nothing

@@ -4,5 +4,6 @@
 mod laws;
 
 pub use laws::{
-    changes_stay_standing, first_is_standing, replays_are_standing, steps_stay_standing, writes_stay_standing,
+    changes_stay_standing, first_is_standing, replays_are_standing, steps_stay_standing,
+    writes_stay_standing,
 };
