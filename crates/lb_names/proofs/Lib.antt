@@ -31,3 +31,5 @@ pub mod FormMarks
 pub mod Apart
 pub mod ApartMarks
 pub mod FormNames
+pub mod FormLists
+pub mod FormColumns
