@@ -33,3 +33,4 @@ pub mod ApartMarks
 pub mod FormNames
 pub mod FormLists
 pub mod FormColumns
+pub mod FormSteps
