@@ -34,3 +34,4 @@ pub mod FormNames
 pub mod FormLists
 pub mod FormColumns
 pub mod FormSteps
+pub mod FormQueries
