@@ -35,3 +35,4 @@ pub mod FormLists
 pub mod FormColumns
 pub mod FormSteps
 pub mod FormQueries
+pub mod FormTypes
