@@ -36,3 +36,4 @@ pub mod FormColumns
 pub mod FormSteps
 pub mod FormQueries
 pub mod FormTypes
+pub mod FormRules
