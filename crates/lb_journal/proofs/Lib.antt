@@ -8,3 +8,4 @@ pub mod Agreeing
 pub mod Answering
 pub mod Steady
 pub mod Wider
+pub mod Qualifies

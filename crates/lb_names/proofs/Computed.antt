@@ -2,7 +2,7 @@
 use Rattle.std.specs.Prelude.{pos}
 use Rattle.lb_tree.specs.declared.query.Atom.TheVariants as atoms
 use Rattle.lb_tree.specs.declared.query.Function.TheVariants as functions
-use Rattle.std.proofs.Common.{◌≡◌, refl, ap, ◌∙◌, ◌||◌, Some, None, Option, [], ◌∷◌, Bool, false, List, Ok, Err}
+use Rattle.std.proofs.Common.{◌≡◌, refl, ap, ◌∙◌, ◌||◌, Some, None, Option, [], ◌∷◌, Bool, true, false, List, Ok, Err}
 use Rattle.std.specs.List.{list_any}
 use Rattle.lb_tree.specs.declared.query.Select.{Select}
 use Rattle.lb_tree.specs.declared.query.Cond.TheViews.{out-Query}
@@ -18,10 +18,11 @@ use Rattle.lb_tree.specs.declared.query.Cond.TheVariants as conds
 use Rattle.lb_tree.specs.declared.query.Cond.TheViews.{out-roll-Query, outs-Atom, outs-Case, outs-Apply, outs-Sum, outs-Value, outs-AllOf, outs-Compare}
 use Rattle.lb_tree.specs.declared.query.Expr.{Expr}
 use Rattle.lb_tree.specs.Folds.{cond_of, expr_of}
-use Rattle.lb_tree.proofs.Opens.{cond_and, cond_exists, cond_compare, cond_inquery, expr_atom, expr_sum, expr_case, expr_aggregate, expr_apply, item_value, item_everything, item_allof, join_inner, query_roll, chain_roll, signed_roll, arm_roll}
+use Rattle.lb_tree.proofs.Opens.{cond_and, cond_exists, cond_compare, cond_isnull, cond_inquery, expr_atom, expr_sum, expr_case, expr_aggregate, expr_apply, item_value, item_everything, item_allof, join_inner, query_roll, chain_roll, signed_roll, arm_roll}
 use Rattle.lb_names.specs.declared.place.Seen.{Seen}
 use Rattle.lb_names.specs.declared.refused.Refused.TheVariants.{Unknown, Exists, BadLabel, Types}
 use Rattle.lb_names.specs.Marks.{marked, mark_steps}
+use Rattle.lb_names.specs.StatementMarks.{marks_of}
 use Rattle.lb_names.specs.Scopes.{Catalogue}
 use Rattle.lb_names.specs.Carriers.{typing}
 use Rattle.lb_names.specs.Parts.{kind_of_two, kind_with_all, kind_of_arm, kind_of_results}

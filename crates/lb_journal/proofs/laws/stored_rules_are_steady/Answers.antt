@@ -1,4 +1,5 @@
 use Rattle.lb_journal.proofs.Steady.{reads, reads_mask, mentions, mask_mentions, stands, stands_mask, relabels, relabels_mask}
+use Rattle.lb_journal.proofs.Qualifies.{qualifies, qualifies_mask}
 use Rattle.lb_journal.proofs.Wider.{widens, widens_mask}
 use Rattle.lb_journal.proofs.laws.stored_rules_are_steady.Goals as goal
 
@@ -31,3 +32,25 @@ returns-clause-widens c = widens
 
 pub returns-clause-widens_mask : goal.returns-clause-widens_mask
 returns-clause-widens_mask c = widens_mask
+
+pub returns-clause-qualifies : goal.returns-clause-qualifies
+returns-clause-qualifies c = qualifies
+
+pub returns-clause-qualifies_mask : goal.returns-clause-qualifies_mask
+returns-clause-qualifies_mask c = qualifies_mask
+
+pub returns-clause-steady : goal.returns-clause-steady
+returns-clause-steady c = record {
+  reads = reads;
+  reads_mask = reads_mask;
+  mentions = mentions;
+  mask_mentions = mask_mentions;
+  qualifies = qualifies;
+  qualifies_mask = qualifies_mask;
+  widens = widens;
+  widens_mask = widens_mask;
+  stands = stands;
+  stands_mask = stands_mask;
+  relabels = relabels;
+  relabels_mask = relabels_mask;
+}
