@@ -7,7 +7,9 @@ pub mod Lasting
 pub mod Writes
 pub mod Agreeing
 pub mod Answering
+pub mod Facts
 pub mod Steady
 pub mod Wider
 pub mod Mentioned
 pub mod Again
+pub mod Qualifies

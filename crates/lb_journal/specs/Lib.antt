@@ -9,4 +9,3 @@ pub mod Told
 pub mod Touched
 pub mod Rules
 pub mod Lasting
-pub mod Steadiness

@@ -16,7 +16,7 @@ use Rattle.lb_tree.specs.declared.query.Column.{Column}
 use Rattle.lb_tree.specs.declared.query.Tab.{Tab}
 use Rattle.lb_tree.specs.declared.query.Cond.TheOpen as layers
 use Rattle.lb_tree.specs.declared.query.Cond.TheViews.{roll-Cond, roll-Expr, roll-Item, roll-Join, roll-Arm, roll-Chain, roll-Choice, roll-Query, roll-Signed}
-use Rattle.lb_tree.specs.declared.query.Cond.TheFolds.{map-Cond, map-Expr, map-Item, map-Join, map-Arm, map-Chain, map-Choice, map-Query, map-Signed, ind-Cond, ind-Expr}
+use Rattle.lb_tree.specs.declared.query.Cond.TheFolds.{map-Cond, map-Expr, map-Item, map-Join, map-Arm, map-Chain, map-Choice, map-Query, map-Signed, ind-Cond, ind-Expr, ind-Chain}
 use Rattle.lb_tree.specs.Folds.{Written, cond_of, expr_of, item_of, join_of, arm_of, chain_of, choice_of, query_of, signed_of}
 use Rattle.lb_tree.proofs.Opens.{cond_roll, expr_roll, item_roll, join_roll, arm_roll, chain_roll, choice_roll, query_roll, signed_roll}
 use Rattle.lb_names.specs.declared.place.Seen.{Seen}
@@ -84,10 +84,10 @@ module _ (C : Catalogue) where
   MarksLike (m ∷ ms) (n ∷ ns) = MarkLike m n × MarksLike ms ns
   MarksLike _ _ = ⊥
 
-  abbrev JoinLike : JoinMarks → JoinMarks → Sight → Sight → Type 0
+  abbrev pub JoinLike : JoinMarks → JoinMarks → Sight → Sight → Type 0
   JoinLike j k v w = (j.tab ≡ k.tab) × MarksLike (j.on v) (k.on w)
 
-  abbrev ChainLike : ChainMarks → ChainMarks → Sight → Sight → Type 0
+  abbrev pub ChainLike : ChainMarks → ChainMarks → Sight → Sight → Type 0
   ChainLike a b v w = (tables_of_chain a ≡ tables_of_chain b) × ((a.first ≡ b.first) × ((all before : List Name) → MarksLike (joins_marks v all before (a.first ∷ []) a.joins) (joins_marks w all before (b.first ∷ []) b.joins)))
 
   move : {A : Type 0} (R : A → A → Type 0) (a c b d : A) → a ≡ c → b ≡ d → R c d → R a b
@@ -102,7 +102,7 @@ module _ (C : Catalogue) where
   both [] (u ∷ us) ys ws h k = absurd h
   both (x ∷ xs) [] ys ws h k = absurd h
 
-  level_like : (seen others : List Seen) → SeenLikes seen others → level_in seen ≡ level_in others
+  pub level_like : (seen others : List Seen) → SeenLikes seen others → level_in seen ≡ level_in others
   level_like [] [] h = refl
   level_like (s ∷ seen) (t ∷ others) h = ap suc h.0.0
   level_like [] (t ∷ others) h = absurd h
@@ -116,12 +116,12 @@ module _ (C : Catalogue) where
   seen_before n m e [] seen others h = h
   seen_before n m e (tab ∷ tabs) seen others h = ((e, (refl, refl)), seen_before n m e tabs seen others h)
 
-  inside_like : (v w : Sight) (tabs : List Tab) → SightLike v w → SightLike (inside v tabs) (inside w tabs)
+  pub inside_like : (v w : Sight) (tabs : List Tab) → SightLike v w → SightLike (inside v tabs) (inside w tabs)
   inside_like v w tabs s =
       let e : level_in v.seen ≡ level_in w.seen = level_like v.seen w.seen s.1.1.0 in
       (e, (items_like (level_in v.seen) (level_in w.seen) e tabs, (seen_before (level_in v.seen) (level_in w.seen) e tabs v.seen w.seen s.1.1.0, λ i. calls_of tabs ++ s.1.1.1 i)))
 
-  inside_on_like : (v w : Sight) (all : List Name) (tabs : List Tab) → SightLike v w → SightLike (inside_on v all tabs) (inside_on w all tabs)
+  pub inside_on_like : (v w : Sight) (all : List Name) (tabs : List Tab) → SightLike v w → SightLike (inside_on v all tabs) (inside_on w all tabs)
   inside_on_like v w all tabs s = let k : SightLike (inside v tabs) (inside w tabs) = inside_like v w tabs s in (k.0, (k.1.0, (k.1.1.0, λ i. all ++ s.1.1.1 i)))
 
   columns_like : (seen others : List Seen) → SeenLikes seen others → (cs : List Column) → MarksLike (map (column seen) cs) (map (column others) (map (with_item C seen) cs))
@@ -330,3 +330,6 @@ module _ (C : Catalogue) where
 
   pub form_expr : (x : Expr) → GoodExpr x
   form_expr = ind-Expr GoodCond GoodExpr GoodItem GoodJoin GoodArm GoodChain GoodChoice GoodQuery GoodSigned (λ x y is. subst (λ z. GoodCond (roll-Cond z)) is (cond_good y)) (λ x y is. subst (λ z. GoodExpr (roll-Expr z)) is (expr_good y)) (λ x y is. subst (λ z. GoodItem (roll-Item z)) is (item_good y)) (λ x y is. subst (λ z. GoodJoin (roll-Join z)) is (join_good y)) (λ x y is. subst (λ z. GoodArm (roll-Arm z)) is (arm_good y)) (λ x y is. subst (λ z. GoodChain (roll-Chain z)) is (chain_good y)) (λ x y is. subst (λ z. GoodChoice (roll-Choice z)) is (choice_good y)) (λ x y is. subst (λ z. GoodQuery (roll-Query z)) is (query_good y.distinct y.items y.from y.filter y.group y.having)) (λ x y is. subst (λ z. GoodSigned (roll-Signed z)) is (signed_good y))
+
+  pub form_chain : (x : Chain) → GoodChain x
+  form_chain = ind-Chain GoodCond GoodExpr GoodItem GoodJoin GoodArm GoodChain GoodChoice GoodQuery GoodSigned (λ x y is. subst (λ z. GoodCond (roll-Cond z)) is (cond_good y)) (λ x y is. subst (λ z. GoodExpr (roll-Expr z)) is (expr_good y)) (λ x y is. subst (λ z. GoodItem (roll-Item z)) is (item_good y)) (λ x y is. subst (λ z. GoodJoin (roll-Join z)) is (join_good y)) (λ x y is. subst (λ z. GoodArm (roll-Arm z)) is (arm_good y)) (λ x y is. subst (λ z. GoodChain (roll-Chain z)) is (chain_good y)) (λ x y is. subst (λ z. GoodChoice (roll-Choice z)) is (choice_good y)) (λ x y is. subst (λ z. GoodQuery (roll-Query z)) is (query_good y.distinct y.items y.from y.filter y.group y.having)) (λ x y is. subst (λ z. GoodSigned (roll-Signed z)) is (signed_good y))

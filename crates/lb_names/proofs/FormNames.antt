@@ -107,11 +107,11 @@ module _ (C : Catalogue) where
   columns_stay [] (n ∷ ns) h a k = absurd h
   columns_stay (m ∷ ms) [] h a k = absurd h
 
-  all_taken : (ms : Marks) → first (item_refusal C true) ms ≡ None → Taken C ms
+  pub all_taken : (ms : Marks) → first (item_refusal C true) ms ≡ None → Taken C ms
   all_taken [] h = tt
   all_taken (m ∷ ms) h = let e : (item_refusal C true m ≡ None) × (first (item_refusal C true) ms ≡ None) = neither (item_refusal C true m) (first (item_refusal C true) ms) h in (e.0, all_taken ms e.1)
 
-  items_none : (ms : Marks) → passes C true ms None ≡ None → first (item_refusal C true) ms ≡ None
+  pub items_none : (ms : Marks) → passes C true ms None ≡ None → first (item_refusal C true) ms ≡ None
   items_none ms h = (neither (first (item_refusal C true) ms) (or_else (first (column_refusal C) ms) (or_else (first (call_refusal C) ms) (first (text_refusal C) ms))) h).0
 
   passes_stay : (ms ns : Marks) → MarksLike C ms ns → AllApart ms → passes C true ms None ≡ None → passes C true ns None ≡ None
@@ -123,10 +123,10 @@ module _ (C : Catalogue) where
 
   -- ---- stored conditions
 
-  over_like : (tab other : Tab) → tab.table ≡ other.table → correlation tab ≡ correlation other → SightLike C (over tab) (over other)
+  pub over_like : (tab other : Tab) → tab.table ≡ other.table → correlation tab ≡ correlation other → SightLike C (over tab) (over other)
   over_like tab other t n = (refl, (((refl, (t, n)), tt), (((refl, (t, n)), tt), λ i. n i ∷ [])))
 
-  over_good : (tab : Tab) → Good (over tab)
+  pub over_good : (tab : Tab) → Good (over tab)
   over_good tab = (refl, ((λ i. (bytes_eq-Decides (correlation tab) (correlation tab)).1 refl i || false), tt))
 
   cond_like : (c : Cond) (v w : Sight) → SightLike C v w → MarksLike C (cond_marks c v) (cond_marks (qualified_cond C c v.seen) w)
@@ -137,11 +137,11 @@ module _ (C : Catalogue) where
   unfolding expr_marks qualified_expr
   expr_like e v w s = form_expr C e v w s
 
-  cond_apart : (c : Cond) (v : Sight) → Good v → Taken C (cond_marks c v) → AllApart (cond_marks c v)
+  pub cond_apart : (c : Cond) (v : Sight) → Good v → Taken C (cond_marks c v) → AllApart (cond_marks c v)
   unfolding cond_marks
   cond_apart c v g t = apart_cond C c v g t
 
-  expr_apart : (e : Expr) (v : Sight) → Good v → Taken C (expr_marks e v) → AllApart (expr_marks e v)
+  pub expr_apart : (e : Expr) (v : Sight) → Good v → Taken C (expr_marks e v) → AllApart (expr_marks e v)
   unfolding expr_marks
   expr_apart e v g t = apart_expr C e v g t
 

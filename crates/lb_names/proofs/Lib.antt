@@ -31,3 +31,9 @@ pub mod FormMarks
 pub mod Apart
 pub mod ApartMarks
 pub mod FormNames
+pub mod FormLists
+pub mod FormColumns
+pub mod FormSteps
+pub mod FormQueries
+pub mod FormTypes
+pub mod FormRules

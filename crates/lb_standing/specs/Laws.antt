@@ -6,8 +6,6 @@ use Rattle.lb_stmt.specs.declared.write.Stmt.{Stmt}
 use Rattle.lb_stmt.specs.declared.write.Stmt.TheVariants as stmts
 use Rattle.lb_tok.specs.Spelled.{IsSpoken}
 use Rattle.lb_cat.specs.declared.entry.Entry.{Entry}
-use Rattle.lb_alter.specs.Steady.{IsSteady}
-use Rattle.lb_journal.specs.Rules.{stored_rules}
 use Rattle.lb_journal.specs.State.{State, first, after}
 use Rattle.lb_journal.specs.Journal.{IsMade}
 use Rattle.lb_journal.specs.Replay.{Replay}
@@ -30,14 +28,14 @@ IsAnswered s = Unit {0}
 abbrev pub WritesStayStanding : Type 0
 WritesStayStanding = (s : Stmt) → IsAnswered s → KeepsStanding s
 
--- so does a change of the catalogue, under steady rules
+-- so does a change of the catalogue
 abbrev pub ChangesStayStanding : Type 0
-ChangesStayStanding = IsSteady stored_rules → (c : Change) → KeepsStanding (stmts.Change c)
+ChangesStayStanding = (c : Change) → KeepsStanding (stmts.Change c)
 
 -- so does every statement
 abbrev pub StepsStayStanding : Type 0
-StepsStayStanding = IsSteady stored_rules → (s : Stmt) → KeepsStanding s
+StepsStayStanding = (s : Stmt) → KeepsStanding s
 
 -- what a well-made journal leaves stands so
 abbrev pub ReplaysAreStanding : Type 0
-ReplaysAreStanding = IsSteady stored_rules → (J : List Entry) (S : State) → IsMade J → Replay J S → IsStanding S
+ReplaysAreStanding = (J : List Entry) (S : State) → IsMade J → Replay J S → IsStanding S

@@ -26,6 +26,7 @@ pub fn writes_stay_standing()
 pub fn changes_stay_standing()
     ensures { ChangesStayStanding }
 {
+    lb_journal::stored_rules_are_steady();
     lb_alter::changes_stay_sound();
     lb_alter::changes_keep_fits();
     lb_spoken::spoken_changes_are_as_read();
