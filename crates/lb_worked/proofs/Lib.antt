@@ -8,3 +8,5 @@ mod Labelled
 mod Chained
 mod Written
 mod Stored
+mod MaskedGroups
+mod Grouped

@@ -11,3 +11,5 @@ pub mod Labelled
 pub mod Chained
 pub mod Written
 pub mod Stored
+pub mod MaskedGroups
+pub mod Grouped
