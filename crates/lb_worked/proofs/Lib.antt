@@ -10,3 +10,5 @@ mod Written
 mod Stored
 mod MaskedGroups
 mod Grouped
+mod Given
+mod Refused

@@ -13,3 +13,5 @@ pub mod Written
 pub mod Stored
 pub mod MaskedGroups
 pub mod Grouped
+pub mod Given
+pub mod Refused
