@@ -12,3 +12,4 @@ mod MaskedGroups
 mod Grouped
 mod Given
 mod Refused
+mod Denied

@@ -15,3 +15,4 @@ pub mod MaskedGroups
 pub mod Grouped
 pub mod Given
 pub mod Refused
+pub mod Denied

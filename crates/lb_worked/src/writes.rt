@@ -3,6 +3,7 @@ ghost use Rattle.lb_worked.specs.Written.{DoubledKey, KeysAfterRows, KeysOfNewRo
 ghost use Rattle.lb_worked.specs.Stored.{TakesOwnLabel, KeepsLabel, NullIsNotGiven, ReadableNotWritable, FirstComponent, Overridden, GivenWithoutLabel, NoOwnLabel, HiddenKey, SecuredColumn};
 ghost use Rattle.lb_worked.specs.Given.{InOrder, SecondFaults, NullBeforeFault, FaultBeforeNull, NullBeforeKeys, DoubledInValues, NotCut, SwapsColumns, SwapsBackwards};
 ghost use Rattle.lb_worked.specs.Refused.{MaySelect, MayNotSelect, MayNotUpdate, MayDelete, OwnerMay, SetMasked, SetOwn, SetTarget};
+ghost use Rattle.lb_worked.specs.Denied.{RowAllowed, RowDenied, RowMayNotLeave, RowUnseenStays};
 
 /// Each row goes through its checks in order before the next one, and keys are compared after all rows.
 pub fn writes_go_row_by_row()
@@ -55,4 +56,12 @@ pub fn refusals_stand_beside_accepted()
     ensures set_masked { SetMasked }
     ensures set_own { SetOwn }
     ensures set_target { SetTarget }
+{}
+
+/// A new row that no permission allows refuses the whole statement, and rows that aren't seen stay as they are.
+pub fn new_rows_are_permitted()
+    ensures row_allowed { RowAllowed }
+    ensures row_denied { RowDenied }
+    ensures row_may_not_leave { RowMayNotLeave }
+    ensures row_unseen_stays { RowUnseenStays }
 {}
