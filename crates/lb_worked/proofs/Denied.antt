@@ -5,7 +5,6 @@ use Rattle.lb_base.specs.Arithmetic.{in_64_bits, sum_of, product_of}
 use Rattle.lb_base.specs.Evaluated.{Evaluated, ◌>>=◌}
 use Rattle.lb_base.specs.Truths.{is_true}
 use Rattle.lb_base.specs.declared.value.Value.{Value}
-use Rattle.lb_cat.specs.declared.catalog.PermissionRec.{PermissionRec}
 use Rattle.lb_mean.specs.Conditions.{cond_step}
 use Rattle.lb_mean.specs.Meaning.{means, says}
 use Rattle.lb_mean.specs.Meant.{Says}
@@ -14,7 +13,7 @@ use Rattle.lb_mean.specs.Visible.{alone, is_granted_by}
 use Rattle.lb_tree.specs.declared.query.Comparison.TheVariants as comparisons
 use Rattle.lb_tree.specs.declared.query.Cond.TheOpen as layers
 use Rattle.lb_worked.specs.Denied.{RowAllowed, RowDenied, RowMayNotLeave, RowUnseenStays}
-use Rattle.lb_worked.specs.Orders.{r, one, two}
+use Rattle.lb_worked.specs.Orders.{r}
 use Rattle.lb_worked.specs.Permitted.{p1}
 use Rattle.lb_worked.specs.Tables.{guarded_by, number, greatest}
 use Rattle.lb_worked.specs.Trees.{of, int}

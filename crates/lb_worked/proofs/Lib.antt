@@ -13,3 +13,4 @@ mod Grouped
 mod Given
 mod Refused
 mod Denied
+mod Sessions

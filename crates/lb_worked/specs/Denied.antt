@@ -1,5 +1,5 @@
 -- R of specs/Orders with a permission P1, which asks for A = 2: new rows that a permission denies, each beside one that it allows.
-use Rattle.std.specs.Prelude.{◌≡◌, List, [], ◌∷◌, None, codes}
+use Rattle.std.specs.Prelude.{◌≡◌, [], ◌∷◌, None, codes}
 use Rattle.lb_stmt.specs.declared.write.Stmt.{Stmt}
 use Rattle.lb_cat.specs.declared.refusal.Refusal.TheVariants as refusals
 use Rattle.lb_cat.specs.declared.reply.Verb.TheVariants as verbs

@@ -16,3 +16,4 @@ pub mod Grouped
 pub mod Given
 pub mod Refused
 pub mod Denied
+pub mod Sessions
