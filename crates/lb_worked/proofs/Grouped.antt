@@ -1,7 +1,7 @@
 -- The examples of specs/Grouped, computed.
 use Rattle.std.proofs.Common.{refl}
 use Rattle.lb_base.specs.Arithmetic.{in_64_bits, sum_of, product_of}
-use Rattle.lb_worked.specs.Grouped.{FirstRowsOrder, OneGroup, NoGroup, HavingTrue, HavingUnknown, NullsNotCounted, SumOverflows, MaxFits}
+use Rattle.lb_worked.specs.Grouped.{FirstRowsOrder, OneGroup, NoGroup, HavingTrue, HavingUnknown, NullsNotCounted, SumOverflows, SumInRowOrder, MaxFits}
 use Rattle.lb_worked.proofs.Computing.{computing}
 
 pub first_rows_order : FirstRowsOrder
@@ -31,6 +31,10 @@ nulls_not_counted = simp computing refl
 pub sum_overflows : SumOverflows
 unfolding in_64_bits sum_of product_of
 sum_overflows = simp computing refl
+
+pub sum_in_row_order : SumInRowOrder
+unfolding in_64_bits sum_of product_of
+sum_in_row_order = simp computing refl
 
 pub max_fits : MaxFits
 unfolding in_64_bits sum_of product_of

@@ -1,5 +1,5 @@
 -- G (K VARCHAR(5), N BIGINT) with nulls in both columns: groups, HAVING, and aggregates over nulls and over no rows.
-use Rattle.std.specs.Prelude.{◌≡◌, List, [], ◌∷◌, Option, Some, None, codes}
+use Rattle.std.specs.Prelude.{◌≡◌, List, [], ◌∷◌, Option, Some, None, codes, negsuc}
 use Rattle.lb_base.specs.declared.key.Ty.TheVariants as types
 use Rattle.lb_base.specs.declared.value.Value.{Value}
 use Rattle.lb_base.specs.declared.value.Value.TheVariants as values
@@ -16,7 +16,7 @@ use Rattle.lb_cat.specs.Catalog.{Table}
 use Rattle.lb_rows.specs.Tables.{Tables}
 use Rattle.lb_worked.specs.Orders.{r, rows as sources}
 use Rattle.lb_worked.specs.Trees.{bare, col, int, aggregate, count_rows, greater, no, item, tab, from, select, select_groups_of, select_having, asked}
-use Rattle.lb_worked.specs.Tables.{column, plain, holding, number, word, with_tables, answered}
+use Rattle.lb_worked.specs.Tables.{column, plain, holding, number, greatest, word, with_tables, answered}
 
 abbrev pub g : Table
 g = plain (codes "G") (column (codes "K") (types.Text 5) ∷ column (codes "N") types.Int ∷ [])
@@ -79,6 +79,15 @@ NullsNotCounted = reply (select (item (aggregate aggregates.CountDistinct (col (
 abbrev pub SumOverflows : Type 0
 SumOverflows = reply (select (item (aggregate aggregates.Sum (col (codes "X"))) ∷ []) (from (tab (codes "R")) ∷ []) None) ≡ replies.Refused refusals.Overflow
 
+-- S (X BIGINT) with the rows 9223372036854775807, 1 and -5
+abbrev pub summands : Table
+summands = plain (codes "S") (column (codes "X") types.Int ∷ [])
+
+-- SELECT SUM(X) FROM S: SUM adds in the order of the rows, so that it overflows at the second one; a wider sum would fit in the end
+abbrev pub SumInRowOrder : Type 0
+SumInRowOrder = (answered (with_tables (summands ∷ [])) (holding summands ((number greatest ∷ []) ∷ (number 1 ∷ []) ∷ (values.Int (negsuc 4) ∷ []) ∷ []) ∷ []) (codes "ANN")
+    (stmts.Select (asked (select (item (aggregate aggregates.Sum (col (codes "X"))) ∷ []) (from (tab (codes "S")) ∷ []) None)))).reply ≡ replies.Refused refusals.Overflow
+
 -- SELECT MAX(X) FROM R: other aggregates of the same column don't add
 abbrev pub MaxFits : Type 0
-MaxFits = reply (select (item (aggregate aggregates.Max (col (codes "X"))) ∷ []) (from (tab (codes "R")) ∷ []) None) ≡ replies.Rows ((number 9_223_372_036_854_775_807 ∷ []) ∷ [])
+MaxFits = reply (select (item (aggregate aggregates.Max (col (codes "X"))) ∷ []) (from (tab (codes "R")) ∷ []) None) ≡ replies.Rows ((number greatest ∷ []) ∷ [])

@@ -9,7 +9,7 @@ use Rattle.lb_stmt.specs.declared.write.Stmt.TheVariants as stmts
 use Rattle.lb_cat.specs.declared.catalog.PermissionRec.{PermissionRec}
 use Rattle.lb_cat.specs.declared.reply.Reply.{Reply}
 use Rattle.lb_cat.specs.declared.reply.Reply.TheVariants as replies
-use Rattle.lb_cat.specs.Catalog.{Cat, Table, no_user}
+use Rattle.lb_cat.specs.Catalog.{Cat, Table, no_user, first_cat}
 use Rattle.lb_rows.specs.Tables.{Tables}
 use Rattle.lb_worked.specs.Trees.{atom, of, col, int, count_rows, equal, item, tab, from, select, asked}
 use Rattle.lb_worked.specs.Tables.{column, plain, guarded_by, permission, holding, number, word, with_tables, answered}
@@ -46,9 +46,9 @@ pr = permission (codes "PR") doc (equal role (int 1))
 abbrev pub pg : PermissionRec
 pg = permission (codes "PG") doc (equal group (int 1))
 
--- BOB has the role BOSS
+-- BOB has the role BOSS, and SECADMIN has SECADM
 abbrev pub cat : PermissionRec → Cat
-cat p = record (with_tables (guarded_by (p ∷ []) doc ∷ [])) { users = record (no_user (codes "BOB")) { roles = codes "BOSS" ∷ [] } ∷ [] }
+cat p = record (with_tables (guarded_by (p ∷ []) doc ∷ [])) { users = record (no_user (codes "BOB")) { roles = codes "BOSS" ∷ [] } ∷ first_cat.users }
 
 abbrev pub reply : PermissionRec → List ℕ → Query → Reply
 reply p user q = (answered (cat p) rows user (stmts.Select (asked q))).reply

@@ -1,4 +1,4 @@
-use Rattle.lb_worked.proofs.Grouped.{first_rows_order, one_group, no_group, having_true, having_unknown, nulls_not_counted, sum_overflows, max_fits}
+use Rattle.lb_worked.proofs.Grouped.{first_rows_order, one_group, no_group, having_true, having_unknown, nulls_not_counted, sum_overflows, sum_in_row_order, max_fits}
 use Rattle.lb_worked.proofs.queries.groups_keep_nulls.Goals as goal
 
 pub returns-clause-first_rows_order : goal.returns-clause-first_rows_order
@@ -21,6 +21,9 @@ returns-clause-nulls_not_counted c = nulls_not_counted
 
 pub returns-clause-sum_overflows : goal.returns-clause-sum_overflows
 returns-clause-sum_overflows c = sum_overflows
+
+pub returns-clause-sum_in_row_order : goal.returns-clause-sum_in_row_order
+returns-clause-sum_in_row_order c = sum_in_row_order
 
 pub returns-clause-max_fits : goal.returns-clause-max_fits
 returns-clause-max_fits c = max_fits
