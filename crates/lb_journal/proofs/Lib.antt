@@ -9,3 +9,4 @@ pub mod Answering
 pub mod Steady
 pub mod Wider
 pub mod Qualifies
+pub mod AreSteady

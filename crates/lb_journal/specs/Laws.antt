@@ -1,12 +1,18 @@
 -- What holds of every journal.
 use Rattle.std.specs.Prelude.{ℕ, ◌≡◌, ◌<◌, ◌⊎◌, true, false, List, length}
 use Rattle.lb_base.specs.declared.key.Key.{Key}
+use Rattle.lb_stmt.specs.declared.change.Change.{Change}
 use Rattle.lb_stmt.specs.declared.write.Stmt.{Stmt}
 use Rattle.lb_tok.specs.Canonical.{canonical}
 use Rattle.lb_tok.specs.Spelled.{IsSpoken}
 use Rattle.lb_cat.specs.declared.entry.Entry.{Entry}
 use Rattle.lb_cat.specs.declared.reply.Reply.{Reply}
+use Rattle.lb_cat.specs.Catalog.{Cat}
+use Rattle.lb_rows.specs.Tables.{Tables}
 use Rattle.lb_alter.specs.Frame.{SameRecord, SameRows}
+use Rattle.lb_alter.specs.Laws.{IsAsRead}
+use Rattle.lb_alter.specs.Sound.{IsSound}
+use Rattle.lb_journal.specs.Rules.{stored_rules, changed}
 use Rattle.lb_journal.specs.State.{State, first, is_there}
 use Rattle.lb_journal.specs.Replay.{Runs, Replay, Rep}
 
@@ -39,3 +45,9 @@ StampsTell = (J : List Entry) (S : State) (k : Key) → Replay J S → is_there 
 -- where a key has the same stamp after some more entries, it has the same record and the same rows
 abbrev pub SameStampSameRecord : Type 0
 SameStampSameRecord = (J K : List Entry) (S T : State) (k : Key) → Replay J S → Runs (length J) S K T → T.stamp k ≡ S.stamp k → SameAt k S T
+
+-- ---- the catalogue
+
+-- a change leaves a sound catalogue where it finds one, under the rules of names and types
+abbrev pub SoundStaysSound : Type 0
+SoundStaysSound = (C : Cat) (T : Tables) (user : List ℕ) (s : Change) → IsAsRead s → IsSound stored_rules C → IsSound stored_rules (changed C T user s).cat

@@ -13,7 +13,7 @@ ghost use Rattle.lb_journal.specs.Engine.{RightGives};
 ghost use Rattle.lb_journal.specs.Lasting.{AnswerStays, RightLasts, WriteDependenciesLast};
 ghost use Rattle.lb_journal.specs.Rules.{stored_rules};
 ghost use Rattle.lb_journal.specs.Steadiness.{KeepsMaskMentions, KeepsMentions, MaskMentionsStand, MentionsStand, OutlastsColumns, OutlastsColumnsInMask, OutlastsLabels, OutlastsLabelsInMask, QualifiedKeeps, QualifiedMaskKeeps, ReadsNoMore, ReadsNoMoreInMask};
-ghost use Rattle.lb_journal.specs.Laws.{AbsentIsZero, HasOneReplay, HasOneReply, SameStampSameRecord, StampsTell};
+ghost use Rattle.lb_journal.specs.Laws.{AbsentIsZero, HasOneReplay, HasOneReply, SameStampSameRecord, SoundStaysSound, StampsTell};
 
 use crate::engine::Engine;
 
@@ -83,4 +83,9 @@ pub fn stored_rules_are_steady()
     ensures qualifies { QualifiedKeeps stored_rules }
     ensures qualifies_mask { QualifiedMaskKeeps stored_rules }
     ensures steady { IsSteady stored_rules }
+{}
+
+/// Under the rules of names and types a change of a sound catalogue leaves a sound one, for every statement that a text can give.
+pub fn sound_catalogues_stay_sound()
+    ensures { SoundStaysSound }
 {}

@@ -56,16 +56,13 @@ module _ (C : Catalogue) where
   abbrev c_signed : Signed → In Signed
   c_signed = signed_of qualifying (qualify_steps C)
 
-  abbrev pub CallLike : Atom → Atom → Type 0
-  CallLike a b = (call_refusal_of C a ≡ call_refusal_of C b) × (text_refusal_of C a ≡ text_refusal_of C b)
-
   -- the same mark, a column being qualified
   abbrev pub MarkLike : Mark → Mark → Type 0
   MarkLike (enter items) (enter others) = Unit {0}
   MarkLike (item before around tab) (item names outer other) = (before ≡ names) × ((around ≡ outer) × (tab ≡ other))
   MarkLike (column seen c) (column others d) = SeenLikes seen others × (d ≡ with_item C seen c)
   MarkLike (star items x) (star others y) = SeenLikes items others × (x ≡ y)
-  MarkLike (call a) (call b) = CallLike a b
+  MarkLike (call a) (call b) = (call_refusal_of C a ≡ call_refusal_of C b) × (text_refusal_of C a ≡ text_refusal_of C b)
   MarkLike _ _ = ⊥
 
   abbrev pub MarksLike : Marks → Marks → Type 0

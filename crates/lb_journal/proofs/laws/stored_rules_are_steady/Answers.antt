@@ -1,4 +1,5 @@
 use Rattle.lb_journal.proofs.Steady.{reads, reads_mask, mentions, mask_mentions, stands, stands_mask, relabels, relabels_mask}
+use Rattle.lb_journal.proofs.AreSteady.{steady}
 use Rattle.lb_journal.proofs.Qualifies.{qualifies, qualifies_mask}
 use Rattle.lb_journal.proofs.Wider.{widens, widens_mask}
 use Rattle.lb_journal.proofs.laws.stored_rules_are_steady.Goals as goal
@@ -40,17 +41,4 @@ pub returns-clause-qualifies_mask : goal.returns-clause-qualifies_mask
 returns-clause-qualifies_mask c = qualifies_mask
 
 pub returns-clause-steady : goal.returns-clause-steady
-returns-clause-steady c = record {
-  reads = reads;
-  reads_mask = reads_mask;
-  mentions = mentions;
-  mask_mentions = mask_mentions;
-  qualifies = qualifies;
-  qualifies_mask = qualifies_mask;
-  widens = widens;
-  widens_mask = widens_mask;
-  stands = stands;
-  stands_mask = stands_mask;
-  relabels = relabels;
-  relabels_mask = relabels_mask;
-}
+returns-clause-steady c = steady
