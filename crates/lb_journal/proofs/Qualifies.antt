@@ -92,8 +92,7 @@ qualifies_mask C t on at c e found place there h =
     record {
       names = ap (option_map refusal_for) (mask_form_stays (named_in C) on (called t (correlation_of on)) on_table (called_same on) e names);
       types =
-        subst (TypesAt stored_rules C t (record { name = []; column = at; correlation = correlation_of on; value = stored_rules.qualified_mask C on e; enabled = true })) (sym there)
-        (ap (option_map refusal_for) (mask_types_kept (named_in C) on (called t (correlation_of on)) on_table (called_same on) c.name e names) ∙ h.types, no_label_unbroken (named_in C) c.ty _ kinds ((means (named_in C) e).kind (stored_place on) 0) (none_told (mask_types_refused (named_in C) on c.name e) h.types));
+          subst (TypesAt stored_rules C t (record { name = []; column = at; correlation = correlation_of on; value = stored_rules.qualified_mask C on e; enabled = true })) (sym there)
+          (ap (option_map refusal_for) (mask_types_kept (named_in C) on (called t (correlation_of on)) on_table (called_same on) c.name e names) ∙ h.types, no_label_unbroken (named_in C) c.ty _ kinds ((means (named_in C) e).kind (stored_place on) 0) (none_told (mask_types_refused (named_in C) on c.name e) h.types));
       qualified = mask_is_qualified (named_in C) on e names;
     }
-
