@@ -17,21 +17,30 @@ use Rattle.lb_names.specs.SelectLists.{column_kinds, fit, star_outputs, called}
 use Rattle.lb_names.specs.Laws.{are_apart}
 use Rattle.lb_names.proofs.Apart.{IsApart, AllApart}
 use Rattle.lb_names.proofs.FormLists.{at_sight}
-use Rattle.lb_names.proofs.FormMarks.{SeenLike, SeenLikes, MarkLike, MarksLike}
+use Rattle.lb_names.proofs.FormMarks.{MarkLike, MarksLike}
+use Rattle.lb_names.proofs.LikeSights.{SeenLike, SeenLikes}
 use Rattle.lb_names.proofs.Stays.{column_stays}
+
+pub before : (xs ys : Marks) → AllApart (xs ++ ys) → AllApart xs
+before [] ys h = tt
+before (x ∷ xs) ys h = (h.0, before xs ys h.1)
+
+pub after : (xs ys : Marks) → AllApart (xs ++ ys) → AllApart ys
+after [] ys h = h
+after (x ∷ xs) ys h = after xs ys h.1
 
 module _ (C : Catalogue) where
   -- the same field of like items, or unknown names both
   abbrev pub ResolvedLike : Resolved → Resolved → Type 0
-  ResolvedLike (Ok x) (Ok y) = SeenLike C x.item y.item × (x.field ≡ y.field)
+  ResolvedLike (Ok x) (Ok y) = SeenLike x.item y.item × (x.field ≡ y.field)
   ResolvedLike (Err m) (Err n) = Unit {0}
   ResolvedLike _ _ = ⊥
 
-  found_like : (n : Name) (s t : Seen) → SeenLike C s t → (o : Option Field) → ResolvedLike (found_in n s o) (found_in n t o)
+  found_like : (n : Name) (s t : Seen) → SeenLike s t → (o : Option Field) → ResolvedLike (found_in n s o) (found_in n t o)
   found_like n s t h None = tt
   found_like n s t h (Some f) = (h, refl)
 
-  column_like : (n : Name) (s t : Seen) → SeenLike C s t → ResolvedLike (column_of C n s) (column_of C n t)
+  column_like : (n : Name) (s t : Seen) → SeenLike s t → ResolvedLike (column_of C n s) (column_of C n t)
   column_like n s t h = subst (λ z. ResolvedLike (column_of C n s) (found_in n t (field_named n (listed (C.columns z))))) h.1.0 (found_like n s t h (field_named n (columns_of C s.tab)))
 
   -- one of two, by conditions that are the same
@@ -43,23 +52,23 @@ module _ (C : Catalogue) where
         | false ↦ k
       ])
 
-  qualified_like : (y n : Name) (seen others : List Seen) → SeenLikes C seen others → ResolvedLike (qualified C y n seen) (qualified C y n others)
+  qualified_like : (y n : Name) (seen others : List Seen) → SeenLikes seen others → ResolvedLike (qualified C y n seen) (qualified C y n others)
   qualified_like y n [] [] h = tt
   qualified_like y n (s ∷ seen) (t ∷ others) h =
       choose_like (bytes_eq (correlation s.tab) y) (bytes_eq (correlation t.tab) y) (ap (λ z. bytes_eq z y) h.0.1.1) (column_of C n s) (qualified C y n seen) (column_of C n t) (qualified C y n others) (column_like n s t h.0) (qualified_like y n seen others h.1)
   qualified_like y n [] (t ∷ others) h = absurd h
   qualified_like y n (s ∷ seen) [] h = absurd h
 
-  has_like : (n : Name) (s t : Seen) → SeenLike C s t → has_column C n s ≡ has_column C n t
+  has_like : (n : Name) (s t : Seen) → SeenLike s t → has_column C n s ≡ has_column C n t
   has_like n s t h = λ i. list_any (λ f. bytes_eq f.name n) (listed (C.columns (h.1.0 i)))
 
-  shared_like : (n : Name) (level other : ℕ) → level ≡ other → (seen others : List Seen) → SeenLikes C seen others → is_shared C n level seen ≡ is_shared C n other others
+  shared_like : (n : Name) (level other : ℕ) → level ≡ other → (seen others : List Seen) → SeenLikes seen others → is_shared C n level seen ≡ is_shared C n other others
   shared_like n level other e [] [] h = refl
   shared_like n level other e (s ∷ seen) (t ∷ others) h = λ i. ((h.0.0 i == e i) && has_like n s t h.0 i) || shared_like n level other e seen others h.1 i
   shared_like n level other e [] (t ∷ others) h = absurd h
   shared_like n level other e (s ∷ seen) [] h = absurd h
 
-  unqualified_like : (n : Name) (seen others : List Seen) → SeenLikes C seen others → ResolvedLike (unqualified C n seen) (unqualified C n others)
+  unqualified_like : (n : Name) (seen others : List Seen) → SeenLikes seen others → ResolvedLike (unqualified C n seen) (unqualified C n others)
   unqualified_like n [] [] h = tt
   unqualified_like n (s ∷ seen) (t ∷ others) h =
       choose_like (has_column C n s) (has_column C n t) (has_like n s t h.0) (cond (is_shared C n s.level seen) (Err n) (column_of C n s)) (unqualified C n seen) (cond (is_shared C n t.level others) (Err n) (column_of C n t)) (unqualified C n others)
@@ -67,18 +76,18 @@ module _ (C : Catalogue) where
   unqualified_like n [] (t ∷ others) h = absurd h
   unqualified_like n (s ∷ seen) [] h = absurd h
 
-  named_like : (o : Option Name) (n : Name) (seen others : List Seen) → SeenLikes C seen others → ResolvedLike (resolved_as C o n seen) (resolved_as C o n others)
+  named_like : (o : Option Name) (n : Name) (seen others : List Seen) → SeenLikes seen others → ResolvedLike (resolved_as C o n seen) (resolved_as C o n others)
   named_like None n seen others h = unqualified_like n seen others h
   named_like (Some y) n seen others h = qualified_like y n seen others h
 
-  form_like : (seen others : List Seen) → SeenLikes C seen others → are_apart seen ≡ true → (c : Column) (r : Resolved) → resolve C seen c ≡ r → ResolvedLike r (resolve C others (by_item c r))
+  form_like : (seen others : List Seen) → SeenLikes seen others → are_apart seen ≡ true → (c : Column) (r : Resolved) → resolve C seen c ≡ r → ResolvedLike r (resolve C others (by_item c r))
   form_like seen others h a c (Ok x) e =
       let d : Column = by_item c (Ok x) in
       subst (λ r. ResolvedLike r (resolve C others d)) (ap (λ z. resolve C seen (by_item c z)) (sym e) ∙ column_stays C seen c x a e) (named_like d.correlation d.name seen others h)
   form_like seen others h a c (Err n) e = subst (λ r. ResolvedLike r (resolve C others c)) e (named_like c.correlation c.name seen others h)
 
   -- a column and its qualified form
-  pub resolve_like : (seen others : List Seen) → SeenLikes C seen others → are_apart seen ≡ true → (c : Column) → ResolvedLike (resolve C seen c) (resolve C others (with_item C seen c))
+  pub resolve_like : (seen others : List Seen) → SeenLikes seen others → are_apart seen ≡ true → (c : Column) → ResolvedLike (resolve C seen c) (resolve C others (with_item C seen c))
   resolve_like seen others h a c = form_like seen others h a c (resolve C seen c) refl
 
   -- ---- what is said of a column
@@ -118,31 +127,31 @@ module _ (C : Catalogue) where
 
   -- ---- all columns of like items
 
-  free_like : (v w : Sight) (P : Place) (items others : List Seen) → SeenLikes C items others → all_free (at_sight P v) C items ≡ all_free (at_sight P w) C others
+  free_like : (v w : Sight) (P : Place) (items others : List Seen) → SeenLikes items others → all_free (at_sight P v) C items ≡ all_free (at_sight P w) C others
   free_like v w P [] [] h = refl
   free_like v w P (s ∷ items) (t ∷ others) h = λ i. list_all (λ f. is_free P (record { level = h.0.0 i; correlation = h.0.1.1 i; column = f.name })) (listed (C.columns (h.0.1.0 i))) && free_like v w P items others h.1 i
   free_like v w P [] (t ∷ others) h = absurd h
   free_like v w P (s ∷ items) [] h = absurd h
 
-  kinds_like : (items others : List Seen) → SeenLikes C items others → column_kinds C items ≡ column_kinds C others
+  kinds_like : (items others : List Seen) → SeenLikes items others → column_kinds C items ≡ column_kinds C others
   kinds_like [] [] h = refl
   kinds_like (s ∷ items) (t ∷ others) h = λ i. map (λ f. f.kind) (listed (C.columns (h.0.1.0 i))) ++ kinds_like items others h.1 i
   kinds_like [] (t ∷ others) h = absurd h
   kinds_like (s ∷ items) [] h = absurd h
 
-  pub called_likes : (x : Name) (items others : List Seen) → SeenLikes C items others → SeenLikes C (called x items) (called x others)
+  pub called_likes : (x : Name) (items others : List Seen) → SeenLikes items others → SeenLikes (called x items) (called x others)
   called_likes x [] [] h = tt
   called_likes x (s ∷ items) (t ∷ others) h =
-      subst (λ z. SeenLikes C (called x (s ∷ items)) (cond (bytes_eq z x) (t ∷ called x others) (called x others))) h.0.1.1
-      (elim (bytes_eq (correlation s.tab) x) as (λ b. SeenLikes C (cond b (s ∷ called x items) (called x items)) (cond b (t ∷ called x others) (called x others))) [
+      subst (λ z. SeenLikes (called x (s ∷ items)) (cond (bytes_eq z x) (t ∷ called x others) (called x others))) h.0.1.1
+      (elim (bytes_eq (correlation s.tab) x) as (λ b. SeenLikes (cond b (s ∷ called x items) (called x items)) (cond b (t ∷ called x others) (called x others))) [
         | true ↦ (h.0, called_likes x items others h.1)
         | false ↦ called_likes x items others h.1
       ])
   called_likes x [] (t ∷ others) h = absurd h
   called_likes x (s ∷ items) [] h = absurd h
 
-  pub star_like : (v w : Sight) (items others : List Seen) → SeenLikes C items others → (W : Wanted) (P : Place) (at : ℕ) → star_outputs C items W (at_sight P v) at ≡ star_outputs C others W (at_sight P w) at
+  pub star_like : (v w : Sight) (items others : List Seen) → SeenLikes items others → (W : Wanted) (P : Place) (at : ℕ) → star_outputs C items W (at_sight P v) at ≡ star_outputs C others W (at_sight P w) at
   star_like v w items others h W P at = λ i. only_if (not (P.stored && (W.one || W.grouped)) && (free_like v w P items others h i && fit W (kinds_like items others h i))) at (kinds_like items others h i, next at)
 
-  pub width_like : (items others : List Seen) → SeenLikes C items others → length (column_kinds C items) ≡ length (column_kinds C others)
+  pub width_like : (items others : List Seen) → SeenLikes items others → length (column_kinds C items) ≡ length (column_kinds C others)
   width_like items others h = ap (λ ks. length ks) (kinds_like items others h)

@@ -1,15 +1,15 @@
 -- Lists of parts whose types at one sight are those of other parts at another: their types are the same too.
 use Rattle.std.proofs.Common.{ℕ, ◌≡◌, refl, List, [], ◌∷◌, ◌++◌, ◌&&◌, ◌||◌, Option, Some, None, Ok, length, ◌+◌}
 use Rattle.std.specs.List.{list_any, list_all}
-use Rattle.lb_names.specs.Sights.{Sight}
+use Rattle.lb_names.specs.Sights.{Name, Sight}
 use Rattle.lb_names.specs.Kinds.{Kind, Common, with_kind}
 use Rattle.lb_names.specs.Scopes.{is_some}
 use Rattle.lb_names.specs.Typed.{◌>>=◌}
 use Rattle.lb_names.specs.Places.{Place}
-use Rattle.lb_names.specs.Carriers.{Means, Says, Wanted, Shows, Joins, Arms, Choices, Role, Answers}
+use Rattle.lb_names.specs.Carriers.{Chains, Means, Says, Wanted, Shows, Joins, Arms, Choices, Role, Answers}
 use Rattle.lb_names.specs.Parts.{kind_of_all, kind_of_any, kind_of_arm, kind_of_arms, and_kind, kinds_of_choice, kinds_of_choices, all_typed}
 use Rattle.lb_names.specs.Expressions.{is_total, is_sure, if_any, unless_any}
-use Rattle.lb_names.specs.SelectLists.{widths, rest_of, outputs_of}
+use Rattle.lb_names.specs.SelectLists.{joins_typed, widths, rest_of, outputs_of}
 use Rattle.lb_names.specs.Typing.{maybe_typed}
 
 -- the place with something else in sight
@@ -49,6 +49,10 @@ module _ (v w : Sight) where
 
   abbrev pub SameAnswers : Answers → Answers → Type 0
   SameAnswers a b = (R : Role) (P : Place) (at : ℕ) → a.kinds R (at_sight P v) at ≡ b.kinds R (at_sight P w) at
+
+  -- the joins of a chain, in a query with these correlation names
+  abbrev pub SameChain : List Name → Chains → Chains → Type 0
+  SameChain all a b = (P : Place) (n : ℕ) → joins_typed (at_sight P v) all (a.first ∷ []) a.joins n ≡ joins_typed (at_sight P w) all (b.first ∷ []) b.joins n
 
   -- ---- parts
 

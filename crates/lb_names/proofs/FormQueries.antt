@@ -20,7 +20,7 @@ use Rattle.lb_names.specs.Typing.{is_listed, group_of, maybe_typed, no_label, gr
 use Rattle.lb_names.proofs.Apart.{AllApart}
 use Rattle.lb_names.proofs.FormColumns as f
 use Rattle.lb_names.proofs.FormLists as l
-use Rattle.lb_names.proofs.FormMarks.{SeenLikes, SightLike, level_like}
+use Rattle.lb_names.proofs.LikeSights.{SeenLikes, SightLike, level_like}
 
 module _ (C : Catalogue) where
   -- a query with these FROM items: its groups, what is wanted of it, and its kinds
@@ -42,11 +42,11 @@ module _ (C : Catalogue) where
   abbrev kinds_over : Layer typing layers.Query-F → Role → Place → ℕ → List Tab → Typed (List Kind)
   kinds_over q R P at ts = kinds_under q ts (groups_over q R P ts) (wanted_over q R P ts) R P at
 
-  group_same : (v w : Sight) → SeenLikes C v.seen w.seen → (cs : List Column) → AllApart (map (column v.seen) cs) → (P : Place) (n : ℕ) → group_typed C (l.at_sight P v) cs n ≡ group_typed C (l.at_sight P w) (map (with_item C v.seen) cs) n
+  group_same : (v w : Sight) → SeenLikes v.seen w.seen → (cs : List Column) → AllApart (map (column v.seen) cs) → (P : Place) (n : ℕ) → group_typed C (l.at_sight P v) cs n ≡ group_typed C (l.at_sight P w) (map (with_item C v.seen) cs) n
   group_same v w s [] h P n = refl
   group_same v w s (c ∷ cs) h P n = λ i. f.kind_like C v w (resolve C v.seen c) (resolve C w.seen (with_item C v.seen c)) (f.resolve_like C v.seen w.seen s h.0 c) P n i >>= no_label n >>= λ x. group_same v w s cs h.1 P x.1 i
 
-  spots_same : (seen others : List Seen) → SeenLikes C seen others → (cs : List Column) → AllApart (map (column seen) cs) → flat_map (λ c. spots (resolve C seen c)) cs ≡ flat_map (λ c. spots (resolve C others c)) (map (with_item C seen) cs)
+  spots_same : (seen others : List Seen) → SeenLikes seen others → (cs : List Column) → AllApart (map (column seen) cs) → flat_map (λ c. spots (resolve C seen c)) cs ≡ flat_map (λ c. spots (resolve C others c)) (map (with_item C seen) cs)
   spots_same seen others s [] h = refl
   spots_same seen others s (c ∷ cs) h = λ i. f.spots_like C (resolve C seen c) (resolve C others (with_item C seen c)) (f.resolve_like C seen others s h.0 c) i ++ spots_same seen others s cs h.1 i
 
@@ -54,7 +54,7 @@ module _ (C : Catalogue) where
   listed_same seen [] = refl
   listed_same seen (c ∷ cs) = refl
 
-  module _ (v w : Sight) (s : SightLike C v w) (tabs : List Tab) (inner : SightLike C (inside v tabs) (inside w tabs)) (distinct : Bool) (group : List Column) (apart : AllApart (map (column (inside v tabs).seen) group)) (items others : List Shows) (same_items : l.Alls (l.SameShows (inside v tabs) (inside w tabs)) items others) (from chains : List Chains) (same_from : (P : Place) (n : ℕ) → chains_typed (l.at_sight P v) (calls_of tabs) from n ≡ chains_typed (l.at_sight P w) (calls_of tabs) chains n) (filter where_ : Option Says) (same_filter : l.Maybe (l.SameSays (inside v tabs) (inside w tabs)) filter where_) (having having_ : Option Says) (same_having : l.Maybe (l.SameSays (inside v tabs) (inside w tabs)) having having_) (tabs_c : tables_of (map chain_marked from) ≡ tabs) (tabs_d : tables_of (map chain_marked chains) ≡ tabs) where
+  module _ (v w : Sight) (s : SightLike v w) (tabs : List Tab) (inner : SightLike (inside v tabs) (inside w tabs)) (distinct : Bool) (group : List Column) (apart : AllApart (map (column (inside v tabs).seen) group)) (items others : List Shows) (same_items : l.Alls (l.SameShows (inside v tabs) (inside w tabs)) items others) (from chains : List Chains) (same_from : (P : Place) (n : ℕ) → chains_typed (l.at_sight P v) (calls_of tabs) from n ≡ chains_typed (l.at_sight P w) (calls_of tabs) chains n) (filter where_ : Option Says) (same_filter : l.Maybe (l.SameSays (inside v tabs) (inside w tabs)) filter where_) (having having_ : Option Says) (same_having : l.Maybe (l.SameSays (inside v tabs) (inside w tabs)) having having_) (tabs_c : tables_of (map chain_marked from) ≡ tabs) (tabs_d : tables_of (map chain_marked chains) ≡ tabs) where
     abbrev inside_v : Sight
     inside_v = inside v tabs
 
@@ -68,7 +68,7 @@ module _ (C : Catalogue) where
     query_d = record { distinct = distinct; items = others; from = chains; filter = where_; group = map (with_item C inside_v.seen) group; having = having_ }
 
     groups_path : (R : Role) (P : Place) → groups_over query_c R (l.at_sight P v) tabs ≡ groups_over query_d R (l.at_sight P w) tabs
-    groups_path R P = λ i. if listed_same inside_v.seen group i || (l.is_some_same inside_v inside_w having having_ same_having i || (R.total || l.show_totals inside_v inside_w items others same_items i)) then record { level = level_like C v.seen w.seen s.1.1.0 i; columns = spots_same inside_v.seen inside_w.seen inner.1.1.0 group apart i } ∷ P.groups else P.groups
+    groups_path R P = λ i. if listed_same inside_v.seen group i || (l.is_some_same inside_v inside_w having having_ same_having i || (R.total || l.show_totals inside_v inside_w items others same_items i)) then record { level = level_like v.seen w.seen s.1.1.0 i; columns = spots_same inside_v.seen inside_w.seen inner.1.1.0 group apart i } ∷ P.groups else P.groups
 
     wanted_path : (R : Role) (P : Place) → wanted_over query_c R (l.at_sight P v) tabs ≡ wanted_over query_d R (l.at_sight P w) tabs
     wanted_path R P = λ i. record { one = R.one; grouped = listed_same inside_v.seen group i; distinct = distinct; kinds = if is_width R.wanted (l.widths_all inside_v inside_w items others same_items i) then R.wanted else None }

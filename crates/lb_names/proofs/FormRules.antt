@@ -13,16 +13,16 @@ use Rattle.lb_names.specs.Qualify.{qualified_cond, qualified_expr}
 use Rattle.lb_names.specs.Statements.{broken, stored_place, kind_wanted, mask_takes, permission_names_refused, permission_types_refused, permission_qualified, mask_names_refused, mask_types_refused, mask_qualified}
 use Rattle.lb_names.proofs.Apart.{AllApart}
 use Rattle.lb_names.proofs.FormLists.{SameMeans, SameSays}
-use Rattle.lb_names.proofs.FormMarks.{SightLike}
+use Rattle.lb_names.proofs.LikeSights.{SightLike}
 use Rattle.lb_names.proofs.FormNames.{over_like, over_good, all_taken, items_none, cond_apart, expr_apart}
 use Rattle.lb_names.proofs.FormTypes.{same_cond, same_expr}
 
 module _ (C : Catalogue) where
-  of_cond : (c : Cond) (v w : Sight) → SightLike C v w → AllApart (cond_marks c v) → SameSays v w (says C c) (says C (qualified_cond C c v.seen))
+  of_cond : (c : Cond) (v w : Sight) → SightLike v w → AllApart (cond_marks c v) → SameSays v w (says C c) (says C (qualified_cond C c v.seen))
   unfolding cond_marks says qualified_cond
   of_cond c v w s h = same_cond C c v w s h
 
-  of_expr : (e : Expr) (v w : Sight) → SightLike C v w → AllApart (expr_marks e v) → SameMeans v w (means C e) (means C (qualified_expr C e v.seen))
+  of_expr : (e : Expr) (v w : Sight) → SightLike v w → AllApart (expr_marks e v) → SameMeans v w (means C e) (means C (qualified_expr C e v.seen))
   unfolding expr_marks means qualified_expr
   of_expr e v w s h = same_expr C e v w s h
 

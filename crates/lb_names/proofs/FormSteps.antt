@@ -23,9 +23,9 @@ use Rattle.lb_names.specs.SelectLists.{fit, called, item_step, join_step}
 use Rattle.lb_names.proofs.Apart.{AllApart}
 use Rattle.lb_names.proofs.FormColumns as f
 use Rattle.lb_names.proofs.FormLists as l
-use Rattle.lb_names.proofs.FormMarks.{SeenLikes, SightLike}
+use Rattle.lb_names.proofs.LikeSights.{SeenLikes, SightLike}
 
-module _ (C : Catalogue) (v w : Sight) (s : SightLike C v w) where
+module _ (C : Catalogue) (v w : Sight) (s : SightLike v w) where
   -- ---- expressions
 
   apart_atom : (a : Atom) → AllApart (atom_marks a v) → (P : Place) (at : ℕ) → atom_kind C a (l.at_sight P v) at ≡ atom_kind C (atom_in C v.seen a) (l.at_sight P w) at
@@ -138,7 +138,7 @@ module _ (C : Catalogue) (v w : Sight) (s : SightLike C v w) where
 
   pub item_allof : (x : Name) → l.SameShows v w (item_step C (layers.Item-F.AllOf x)) (item_step C (layers.Item-F.AllOf x))
   item_allof x =
-      let h : SeenLikes C (called x v.own) (called x w.own) = f.called_likes C x v.own w.own s.1.0 in
+      let h : SeenLikes (called x v.own) (called x w.own) = f.called_likes C x v.own w.own s.1.0 in
       (λ W P at. f.star_like C v w (called x v.own) (called x w.own) h W P at, (f.width_like C (called x v.own) (called x w.own) h, refl))
 
   pub item_value : (m n : Means) → l.SameMeans v w m n → (name : Option Name) → l.SameShows v w (item_step C (layers.Item-F.Value m name)) (item_step C (layers.Item-F.Value n name))

@@ -32,10 +32,12 @@ use Rattle.lb_names.specs.Qualify.{with_item, atom_in, In, JoinIn, ChainIn, qual
 use Rattle.lb_names.proofs.Apart.{AllApart}
 use Rattle.lb_names.proofs.Carried.{carried_expr, carried_chain}
 use Rattle.lb_names.proofs.FormColumns as f
+use Rattle.lb_names.proofs.FormColumns.{before, after}
 use Rattle.lb_names.proofs.FormLists as l
-use Rattle.lb_names.proofs.FormMarks.{SightLike, inside_like, inside_on_like, form_expr, form_chain}
+use Rattle.lb_names.proofs.FormMarks.{form_expr, form_chain}
 use Rattle.lb_names.proofs.FormQueries as query
 use Rattle.lb_names.proofs.FormSteps as node
+use Rattle.lb_names.proofs.LikeSights.{SightLike, inside_like, inside_on_like}
 use Rattle.lb_names.proofs.Mentioned.{m_cond, m_expr, m_item, m_join, m_arm, m_chain, m_choice, m_query, m_signed}
 
 module _ (C : Catalogue) where
@@ -93,22 +95,10 @@ module _ (C : Catalogue) where
   abbrev t_signed : Signed → Means
   t_signed = signed_of typing (steps C)
 
-  -- the one's joins have at the first sight the types of the other's at the second
-  abbrev SameChain : Sight → Sight → List Name → Chains → Chains → Type 0
-  SameChain v w all a b = (P : Place) (n : ℕ) → joins_typed (l.at_sight P v) all (a.first ∷ []) a.joins n ≡ joins_typed (l.at_sight P w) all (b.first ∷ []) b.joins n
-
   along : {A : Type 0} (R : A → A → Type 0) (a c b d : A) → a ≡ c → b ≡ d → R c d → R a b
   along R a c b d p q h = subst (λ z. R z b) (sym p) (subst (λ z. R c z) (sym q) h)
 
-  before : (xs ys : Marks) → AllApart (xs ++ ys) → AllApart xs
-  before [] ys h = tt
-  before (x ∷ xs) ys h = (h.0, before xs ys h.1)
-
-  after : (xs ys : Marks) → AllApart (xs ++ ys) → AllApart ys
-  after [] ys h = h
-  after (x ∷ xs) ys h = after xs ys h.1
-
-  each : {X A : Type 0} (R : Sight → Sight → A → A → Type 0) (F : X → In X) (G : X → Marked) (T : X → A) (xs : List ((x : X) × ((v w : Sight) → SightLike C v w → AllApart ((G x).marks v) → R v w (T x) (T ((F x).at v.seen))))) (v w : Sight) → SightLike C v w → AllApart (of_each (λ m. m.marks) (map G (map (λ z. z.0) xs)) v) → l.Alls (R v w) (map T (map (λ z. z.0) xs)) (map T (all_at v.seen (map F (map (λ z. z.0) xs))))
+  each : {X A : Type 0} (R : Sight → Sight → A → A → Type 0) (F : X → In X) (G : X → Marked) (T : X → A) (xs : List ((x : X) × ((v w : Sight) → SightLike v w → AllApart ((G x).marks v) → R v w (T x) (T ((F x).at v.seen))))) (v w : Sight) → SightLike v w → AllApart (of_each (λ m. m.marks) (map G (map (λ z. z.0) xs)) v) → l.Alls (R v w) (map T (map (λ z. z.0) xs)) (map T (all_at v.seen (map F (map (λ z. z.0) xs))))
   each R F G T [] v w s h = tt
   each R F G T (x ∷ xs) v w s h = (x.1 v w s (before ((G x.0).marks v) (of_each (λ m. m.marks) (map G (map (λ z. z.0) xs)) v) h), each R F G T xs v w s (after ((G x.0).marks v) (of_each (λ m. m.marks) (map G (map (λ z. z.0) xs)) v) h))
 
@@ -120,64 +110,64 @@ module _ (C : Catalogue) where
   tables_path : (cs : List Chain) → tables_of (map chain_marked (map t_chain cs)) ≡ tables_of (map marking.chain (map m_chain cs))
   tables_path cs = ap (λ chains. tables_of chains) (marks_path cs)
 
-  forms_tables : (cs : List Chain) (v w : Sight) → SightLike C v w → tables_of (map marking.chain (map m_chain cs)) ≡ tables_of (map marking.chain (map m_chain (map (λ c. c.chain v.seen) (map c_chain cs))))
+  forms_tables : (cs : List Chain) (v w : Sight) → SightLike v w → tables_of (map marking.chain (map m_chain cs)) ≡ tables_of (map marking.chain (map m_chain (map (λ c. c.chain v.seen) (map c_chain cs))))
   forms_tables [] v w s = refl
   forms_tables (c ∷ cs) v w s = λ i. ((form_chain C c).1 v w s).0 i ++ forms_tables cs v w s i
 
   -- an aggregate's argument names columns of its own query in both or in neither
-  own_path : (e : Expr) (v w : Sight) → SightLike C v w → AllApart ((m_expr e).marks v) → all_own C v.level ((t_expr e).marks v) ≡ all_own C w.level ((t_expr ((c_expr e).at v.seen)).marks w)
+  own_path : (e : Expr) (v w : Sight) → SightLike v w → AllApart ((m_expr e).marks v) → all_own C v.level ((t_expr e).marks v) ≡ all_own C w.level ((t_expr ((c_expr e).at v.seen)).marks w)
   own_path e v w s h = ap (all_own C v.level) (carried_expr C e v) ∙ f.own_like C v.level w.level s.0 ((m_expr e).marks v) ((m_expr ((c_expr e).at v.seen)).marks w) (form_expr C e v w s) h ∙ sym (ap (all_own C w.level) (carried_expr C ((c_expr e).at v.seen) w))
 
   abbrev GoodCond : Cond → Type 0
-  GoodCond x = (v w : Sight) → SightLike C v w → AllApart ((m_cond x).marks v) → l.SameSays v w (t_cond x) (t_cond ((c_cond x).at v.seen))
+  GoodCond x = (v w : Sight) → SightLike v w → AllApart ((m_cond x).marks v) → l.SameSays v w (t_cond x) (t_cond ((c_cond x).at v.seen))
 
   abbrev WithCond : Type 0
   WithCond = (x : Cond) × GoodCond x
 
   abbrev GoodExpr : Expr → Type 0
-  GoodExpr x = (v w : Sight) → SightLike C v w → AllApart ((m_expr x).marks v) → l.SameMeans v w (t_expr x) (t_expr ((c_expr x).at v.seen))
+  GoodExpr x = (v w : Sight) → SightLike v w → AllApart ((m_expr x).marks v) → l.SameMeans v w (t_expr x) (t_expr ((c_expr x).at v.seen))
 
   abbrev WithExpr : Type 0
   WithExpr = (x : Expr) × GoodExpr x
 
   abbrev GoodItem : Item → Type 0
-  GoodItem x = (v w : Sight) → SightLike C v w → AllApart ((m_item x).marks v) → l.SameShows v w (t_item x) (t_item ((c_item x).at v.seen))
+  GoodItem x = (v w : Sight) → SightLike v w → AllApart ((m_item x).marks v) → l.SameShows v w (t_item x) (t_item ((c_item x).at v.seen))
 
   abbrev WithItem : Type 0
   WithItem = (x : Item) × GoodItem x
 
   abbrev GoodJoin : Join → Type 0
-  GoodJoin x = ((c_join x).tab ≡ (m_join x).tab) × (((t_join x).marked.tab ≡ (m_join x).tab) × ((v w : Sight) → SightLike C v w → AllApart ((m_join x).on v) → l.SameJoins v w (t_join x) (t_join ((c_join x).join v.seen))))
+  GoodJoin x = ((c_join x).tab ≡ (m_join x).tab) × (((t_join x).marked.tab ≡ (m_join x).tab) × ((v w : Sight) → SightLike v w → AllApart ((m_join x).on v) → l.SameJoins v w (t_join x) (t_join ((c_join x).join v.seen))))
 
   abbrev WithJoin : Type 0
   WithJoin = (x : Join) × GoodJoin x
 
   abbrev GoodArm : Arm → Type 0
-  GoodArm x = (v w : Sight) → SightLike C v w → AllApart ((m_arm x).marks v) → l.SameArms v w (t_arm x) (t_arm ((c_arm x).at v.seen))
+  GoodArm x = (v w : Sight) → SightLike v w → AllApart ((m_arm x).marks v) → l.SameArms v w (t_arm x) (t_arm ((c_arm x).at v.seen))
 
   abbrev WithArm : Type 0
   WithArm = (x : Arm) × GoodArm x
 
   abbrev GoodChain : Chain → Type 0
-  GoodChain x = ((c_chain x).tabs ≡ tables_of_chain (m_chain x)) × ((v w : Sight) → SightLike C v w → (all before : List Name) → AllApart (joins_marks v all before ((m_chain x).first ∷ []) (m_chain x).joins) → SameChain v w all (t_chain x) (t_chain ((c_chain x).chain v.seen)))
+  GoodChain x = ((c_chain x).tabs ≡ tables_of_chain (m_chain x)) × ((v w : Sight) → SightLike v w → (all before : List Name) → AllApart (joins_marks v all before ((m_chain x).first ∷ []) (m_chain x).joins) → l.SameChain v w all (t_chain x) (t_chain ((c_chain x).chain v.seen)))
 
   abbrev WithChain : Type 0
   WithChain = (x : Chain) × GoodChain x
 
   abbrev GoodChoice : Choice → Type 0
-  GoodChoice x = (v w : Sight) → SightLike C v w → AllApart ((m_choice x).marks v) → l.SameChoices v w (t_choice x) (t_choice ((c_choice x).at v.seen))
+  GoodChoice x = (v w : Sight) → SightLike v w → AllApart ((m_choice x).marks v) → l.SameChoices v w (t_choice x) (t_choice ((c_choice x).at v.seen))
 
   abbrev WithChoice : Type 0
   WithChoice = (x : Choice) × GoodChoice x
 
   abbrev GoodQuery : Query → Type 0
-  GoodQuery x = (v w : Sight) → SightLike C v w → AllApart ((m_query x).marks v) → l.SameAnswers v w (t_query x) (t_query ((c_query x).at v.seen))
+  GoodQuery x = (v w : Sight) → SightLike v w → AllApart ((m_query x).marks v) → l.SameAnswers v w (t_query x) (t_query ((c_query x).at v.seen))
 
   abbrev WithQuery : Type 0
   WithQuery = (x : Query) × GoodQuery x
 
   abbrev GoodSigned : Signed → Type 0
-  GoodSigned x = (v w : Sight) → SightLike C v w → AllApart ((m_signed x).marks v) → l.SameMeans v w (t_signed x) (t_signed ((c_signed x).at v.seen))
+  GoodSigned x = (v w : Sight) → SightLike v w → AllApart ((m_signed x).marks v) → l.SameMeans v w (t_signed x) (t_signed ((c_signed x).at v.seen))
 
   abbrev WithSigned : Type 0
   WithSigned = (x : Signed) × GoodSigned x
@@ -217,7 +207,7 @@ module _ (C : Catalogue) where
   joins_tabs [] = refl
   joins_tabs (j ∷ js) = λ i. j.1.0 i ∷ joins_tabs js i
 
-  joins_same : (js : List WithJoin) (v w : Sight) → SightLike C v w → (all before_ : List Name) (tabs : List Tab) → AllApart (joins_marks v all before_ tabs (map marking.join (map m_join (map (λ z. z.0) js)))) → (P : Place) (n : ℕ) → joins_typed (l.at_sight P v) all tabs (map t_join (map (λ z. z.0) js)) n ≡ joins_typed (l.at_sight P w) all tabs (map t_join (joins_in tabs (map c_join (map (λ z. z.0) js)) v.seen)) n
+  joins_same : (js : List WithJoin) (v w : Sight) → SightLike v w → (all before_ : List Name) (tabs : List Tab) → AllApart (joins_marks v all before_ tabs (map marking.join (map m_join (map (λ z. z.0) js)))) → (P : Place) (n : ℕ) → joins_typed (l.at_sight P v) all tabs (map t_join (map (λ z. z.0) js)) n ≡ joins_typed (l.at_sight P w) all tabs (map t_join (joins_in tabs (map c_join (map (λ z. z.0) js)) v.seen)) n
   joins_same [] v w s all before_ tabs h P n = refl
   joins_same (j ∷ js) v w s all before_ tabs h P n =
       let tab : Tab = (m_join j.0).tab in
@@ -225,7 +215,7 @@ module _ (C : Catalogue) where
       let on : Marks = (m_join j.0).on (inside_on v all more) in
       let rest : Marks = joins_marks v all (before_ ++ correlation tab ∷ []) more (map marking.join (map m_join (map (λ z. z.0) js))) in
       let form : Join = (c_join j.0).join (items_in v.seen more ++ v.seen) in
-      let same : l.SameJoins (inside_on v all more) (inside_on w all more) (t_join j.0) (t_join form) = j.1.1.1 (inside_on v all more) (inside_on w all more) (inside_on_like C v w all more s) (before on rest h.1) in
+      let same : l.SameJoins (inside_on v all more) (inside_on w all more) (t_join j.0) (t_join form) = j.1.1.1 (inside_on v all more) (inside_on w all more) (inside_on_like v w all more s) (before on rest h.1) in
       let e : tab ≡ (t_join form).marked.tab = sym j.1.1.0 ∙ same.0 in
       (λ i. (t_join j.0).typed (on_place (l.at_sight P v) all (tabs ++ j.1.1.0 i ∷ [])) n >>= λ x. joins_typed (l.at_sight P v) all (tabs ++ j.1.1.0 i ∷ []) (map t_join (map (λ z. z.0) js)) x.1)
       ∙ (λ i. same.1 (on_place P all more) n i >>= λ x. joins_same js v w s all (before_ ++ correlation tab ∷ []) more (after on rest h.1) P x.1 i)
@@ -236,7 +226,7 @@ module _ (C : Catalogue) where
   chains_tabs [] = refl
   chains_tabs (c ∷ cs) = λ i. c.1.0 i ++ chains_tabs cs i
 
-  chains_typed_same : (cs : List WithChain) (v w : Sight) → SightLike C v w → (all before_ : List Name) → AllApart (chains_marks v all before_ (map marking.chain (map m_chain (map (λ z. z.0) cs)))) → (P : Place) (n : ℕ) → chains_typed (l.at_sight P v) all (map t_chain (map (λ z. z.0) cs)) n ≡ chains_typed (l.at_sight P w) all (map t_chain (map (λ c. c.chain v.seen) (map c_chain (map (λ z. z.0) cs)))) n
+  chains_typed_same : (cs : List WithChain) (v w : Sight) → SightLike v w → (all before_ : List Name) → AllApart (chains_marks v all before_ (map marking.chain (map m_chain (map (λ z. z.0) cs)))) → (P : Place) (n : ℕ) → chains_typed (l.at_sight P v) all (map t_chain (map (λ z. z.0) cs)) n ≡ chains_typed (l.at_sight P w) all (map t_chain (map (λ c. c.chain v.seen) (map c_chain (map (λ z. z.0) cs)))) n
   chains_typed_same [] v w s all before_ h P n = refl
   chains_typed_same (c ∷ cs) v w s all before_ h P n =
       let ch : ChainMarks = m_chain c.0 in
@@ -285,17 +275,17 @@ module _ (C : Catalogue) where
   arm_good y = λ v w s h. let k : AllApart ((m_cond y.when.0).marks v ++ ((m_expr y.result.0).marks v)) = subst AllApart (ap (λ m. m.marks v) (arm_roll marked mark_steps (record { when = y.when.0; result = y.result.0 }))) h in along (l.SameArms v w) _ (arm_step (record { when = (t_cond y.when.0); result = (t_expr y.result.0) })) _ (arm_step (record { when = (t_cond ((c_cond y.when.0).at v.seen)); result = (t_expr ((c_expr y.result.0).at v.seen)) })) (arm_roll typing (steps C) (record { when = y.when.0; result = y.result.0 })) (ap (λ z. t_arm (z.at v.seen)) (arm_roll qualifying (qualify_steps C) (record { when = y.when.0; result = y.result.0 })) ∙ arm_roll typing (steps C) (record { when = ((c_cond y.when.0).at v.seen); result = ((c_expr y.result.0).at v.seen) })) (((y.when.1 v w s (before ((m_cond y.when.0).marks v) ((m_expr y.result.0).marks v) k)), (y.result.1 v w s (after ((m_cond y.when.0).marks v) ((m_expr y.result.0).marks v) k))))
 
   chain_good : (y : Goods layers.Chain-F) → GoodChain (roll-Chain (down_chain y))
-  chain_good y = (ap (λ z. z.tabs) (chain_roll qualifying (qualify_steps C) (record { first = y.first; joins = (map (λ z. z.0) y.joins) })) ∙ (λ i. y.first ∷ joins_tabs y.joins i) ∙ sym (ap (λ z. tables_of_chain z) (chain_roll marked mark_steps (record { first = y.first; joins = (map (λ z. z.0) y.joins) }))), λ v w s all before_ h. along (SameChain v w all) _ (chain_step (record { first = y.first; joins = map t_join (map (λ z. z.0) y.joins) })) _ (chain_step (record { first = y.first; joins = map t_join (joins_in (y.first ∷ []) (map c_join (map (λ z. z.0) y.joins)) v.seen) })) (chain_roll typing (steps C) (record { first = y.first; joins = (map (λ z. z.0) y.joins) })) (ap (λ z. t_chain (z.chain v.seen)) (chain_roll qualifying (qualify_steps C) (record { first = y.first; joins = (map (λ z. z.0) y.joins) })) ∙ chain_roll typing (steps C) (record { first = y.first; joins = joins_in (y.first ∷ []) (map c_join (map (λ z. z.0) y.joins)) v.seen })) (joins_same y.joins v w s all before_ (y.first ∷ []) (subst (λ c. AllApart (joins_marks v all before_ (c.first ∷ []) c.joins)) (chain_roll marked mark_steps (record { first = y.first; joins = (map (λ z. z.0) y.joins) })) h)))
+  chain_good y = (ap (λ z. z.tabs) (chain_roll qualifying (qualify_steps C) (record { first = y.first; joins = (map (λ z. z.0) y.joins) })) ∙ (λ i. y.first ∷ joins_tabs y.joins i) ∙ sym (ap (λ z. tables_of_chain z) (chain_roll marked mark_steps (record { first = y.first; joins = (map (λ z. z.0) y.joins) }))), λ v w s all before_ h. along (l.SameChain v w all) _ (chain_step (record { first = y.first; joins = map t_join (map (λ z. z.0) y.joins) })) _ (chain_step (record { first = y.first; joins = map t_join (joins_in (y.first ∷ []) (map c_join (map (λ z. z.0) y.joins)) v.seen) })) (chain_roll typing (steps C) (record { first = y.first; joins = (map (λ z. z.0) y.joins) })) (ap (λ z. t_chain (z.chain v.seen)) (chain_roll qualifying (qualify_steps C) (record { first = y.first; joins = (map (λ z. z.0) y.joins) })) ∙ chain_roll typing (steps C) (record { first = y.first; joins = joins_in (y.first ∷ []) (map c_join (map (λ z. z.0) y.joins)) v.seen })) (joins_same y.joins v w s all before_ (y.first ∷ []) (subst (λ c. AllApart (joins_marks v all before_ (c.first ∷ []) c.joins)) (chain_roll marked mark_steps (record { first = y.first; joins = (map (λ z. z.0) y.joins) })) h)))
 
   choice_good : (y : Goods layers.Choice-F) → GoodChoice (roll-Choice (down_choice y))
   choice_good y = λ v w s h. let k : AllApart ((m_expr y.when.0).marks v ++ ((m_expr y.result.0).marks v)) = subst AllApart (ap (λ m. m.marks v) (choice_roll marked mark_steps (record { when = y.when.0; result = y.result.0 }))) h in along (l.SameChoices v w) _ (choice_step (record { when = (t_expr y.when.0); result = (t_expr y.result.0) })) _ (choice_step (record { when = (t_expr ((c_expr y.when.0).at v.seen)); result = (t_expr ((c_expr y.result.0).at v.seen)) })) (choice_roll typing (steps C) (record { when = y.when.0; result = y.result.0 })) (ap (λ z. t_choice (z.at v.seen)) (choice_roll qualifying (qualify_steps C) (record { when = y.when.0; result = y.result.0 })) ∙ choice_roll typing (steps C) (record { when = ((c_expr y.when.0).at v.seen); result = ((c_expr y.result.0).at v.seen) })) (((y.when.1 v w s (before ((m_expr y.when.0).marks v) ((m_expr y.result.0).marks v) k)), (y.result.1 v w s (after ((m_expr y.when.0).marks v) ((m_expr y.result.0).marks v) k))))
 
   query_good : (distinct : Bool) (items : List WithItem) (from : List WithChain) (filter : Option WithCond) (group : List Column) (having : Option WithCond)
       → GoodQuery (roll-Query (down_query (record { distinct = distinct; items = items; from = from; filter = filter; group = group; having = having })))
-  query_good distinct items from None group None = λ v w s h. let g : AllApart (enter (items_in v.seen (tables_of (map marking.chain (map m_chain (map (λ z. z.0) from))))) ∷ (of_each marking.item (map m_item (map (λ z. z.0) items)) (inside v (tables_of (map marking.chain (map m_chain (map (λ z. z.0) from))))) ++ (chains_marks v (calls_of (tables_of (map marking.chain (map m_chain (map (λ z. z.0) from))))) [] (map marking.chain (map m_chain (map (λ z. z.0) from))) ++ ([] ++ (map (column (inside v (tables_of (map marking.chain (map m_chain (map (λ z. z.0) from))))).seen) group ++ ([])))))) = subst AllApart (ap (λ m. m.marks v) (query_roll marked mark_steps (record { distinct = distinct; items = (map (λ z. z.0) items); from = (map (λ z. z.0) from); filter = None; group = group; having = None }))) h in let k : AllApart (of_each marking.item (map m_item (map (λ z. z.0) items)) (inside v (tables_of (map marking.chain (map m_chain (map (λ z. z.0) from))))) ++ (chains_marks v (calls_of (tables_of (map marking.chain (map m_chain (map (λ z. z.0) from))))) [] (map marking.chain (map m_chain (map (λ z. z.0) from))) ++ ([] ++ (map (column (inside v (tables_of (map marking.chain (map m_chain (map (λ z. z.0) from))))).seen) group ++ ([]))))) = g.1 in along (l.SameAnswers v w) _ (query_step C (record { distinct = distinct; items = (map t_item (map (λ z. z.0) items)); from = (map t_chain (map (λ z. z.0) from)); filter = None; group = group; having = None })) _ (query_step C (record { distinct = distinct; items = (map t_item (all_at (inside v (tables_of (map marking.chain (map m_chain (map (λ z. z.0) from))))).seen (map c_item (map (λ z. z.0) items)))); from = (map t_chain (map (λ c. c.chain v.seen) (map c_chain (map (λ z. z.0) from)))); filter = None; group = (map (with_item C (inside v (tables_of (map marking.chain (map m_chain (map (λ z. z.0) from))))).seen) group); having = None })) (query_roll typing (steps C) (record { distinct = distinct; items = (map (λ z. z.0) items); from = (map (λ z. z.0) from); filter = None; group = group; having = None })) (ap (λ z. t_query (z.at v.seen)) (query_roll qualifying (qualify_steps C) (record { distinct = distinct; items = (map (λ z. z.0) items); from = (map (λ z. z.0) from); filter = None; group = group; having = None })) ∙ (λ i. t_query (query_in C v.seen (items_in v.seen (chains_tabs from i) ++ v.seen) (record { distinct = distinct; items = map c_item (map (λ z. z.0) items); from = map c_chain (map (λ z. z.0) from); filter = None; group = group; having = None }))) ∙ query_roll typing (steps C) (record { distinct = distinct; items = (all_at (inside v (tables_of (map marking.chain (map m_chain (map (λ z. z.0) from))))).seen (map c_item (map (λ z. z.0) items))); from = (map (λ c. c.chain v.seen) (map c_chain (map (λ z. z.0) from))); filter = None; group = map (with_item C (inside v (tables_of (map marking.chain (map m_chain (map (λ z. z.0) from))))).seen) group; having = None })) (query.query_same C v w s (tables_of (map marking.chain (map m_chain (map (λ z. z.0) from)))) (inside_like C v w (tables_of (map marking.chain (map m_chain (map (λ z. z.0) from)))) s) distinct group (before (map (column (inside v (tables_of (map marking.chain (map m_chain (map (λ z. z.0) from))))).seen) group) ([]) (after ([]) (map (column (inside v (tables_of (map marking.chain (map m_chain (map (λ z. z.0) from))))).seen) group ++ ([])) (after (chains_marks v (calls_of (tables_of (map marking.chain (map m_chain (map (λ z. z.0) from))))) [] (map marking.chain (map m_chain (map (λ z. z.0) from)))) ([] ++ (map (column (inside v (tables_of (map marking.chain (map m_chain (map (λ z. z.0) from))))).seen) group ++ ([]))) (after (of_each marking.item (map m_item (map (λ z. z.0) items)) (inside v (tables_of (map marking.chain (map m_chain (map (λ z. z.0) from)))))) (chains_marks v (calls_of (tables_of (map marking.chain (map m_chain (map (λ z. z.0) from))))) [] (map marking.chain (map m_chain (map (λ z. z.0) from))) ++ ([] ++ (map (column (inside v (tables_of (map marking.chain (map m_chain (map (λ z. z.0) from))))).seen) group ++ ([])))) k)))) (map t_item (map (λ z. z.0) items)) (map t_item (all_at (inside v (tables_of (map marking.chain (map m_chain (map (λ z. z.0) from))))).seen (map c_item (map (λ z. z.0) items)))) (each (λ v w. l.SameShows v w) c_item m_item t_item items (inside v (tables_of (map marking.chain (map m_chain (map (λ z. z.0) from))))) (inside w (tables_of (map marking.chain (map m_chain (map (λ z. z.0) from))))) (inside_like C v w (tables_of (map marking.chain (map m_chain (map (λ z. z.0) from)))) s) (before (of_each marking.item (map m_item (map (λ z. z.0) items)) (inside v (tables_of (map marking.chain (map m_chain (map (λ z. z.0) from)))))) (chains_marks v (calls_of (tables_of (map marking.chain (map m_chain (map (λ z. z.0) from))))) [] (map marking.chain (map m_chain (map (λ z. z.0) from))) ++ ([] ++ (map (column (inside v (tables_of (map marking.chain (map m_chain (map (λ z. z.0) from))))).seen) group ++ ([])))) k)) (map t_chain (map (λ z. z.0) from)) (map t_chain (map (λ c. c.chain v.seen) (map c_chain (map (λ z. z.0) from)))) (chains_typed_same from v w s (calls_of (tables_of (map marking.chain (map m_chain (map (λ z. z.0) from))))) [] (before (chains_marks v (calls_of (tables_of (map marking.chain (map m_chain (map (λ z. z.0) from))))) [] (map marking.chain (map m_chain (map (λ z. z.0) from)))) ([] ++ (map (column (inside v (tables_of (map marking.chain (map m_chain (map (λ z. z.0) from))))).seen) group ++ ([]))) (after (of_each marking.item (map m_item (map (λ z. z.0) items)) (inside v (tables_of (map marking.chain (map m_chain (map (λ z. z.0) from)))))) (chains_marks v (calls_of (tables_of (map marking.chain (map m_chain (map (λ z. z.0) from))))) [] (map marking.chain (map m_chain (map (λ z. z.0) from))) ++ ([] ++ (map (column (inside v (tables_of (map marking.chain (map m_chain (map (λ z. z.0) from))))).seen) group ++ ([])))) k))) None None tt None None tt (tables_path (map (λ z. z.0) from)) (tables_path (map (λ c. c.chain v.seen) (map c_chain (map (λ z. z.0) from))) ∙ sym (forms_tables (map (λ z. z.0) from) v w s)))
-  query_good distinct items from None group (Some having) = λ v w s h. let g : AllApart (enter (items_in v.seen (tables_of (map marking.chain (map m_chain (map (λ z. z.0) from))))) ∷ (of_each marking.item (map m_item (map (λ z. z.0) items)) (inside v (tables_of (map marking.chain (map m_chain (map (λ z. z.0) from))))) ++ (chains_marks v (calls_of (tables_of (map marking.chain (map m_chain (map (λ z. z.0) from))))) [] (map marking.chain (map m_chain (map (λ z. z.0) from))) ++ ([] ++ (map (column (inside v (tables_of (map marking.chain (map m_chain (map (λ z. z.0) from))))).seen) group ++ ((m_cond having.0).marks (inside v (tables_of (map marking.chain (map m_chain (map (λ z. z.0) from))))))))))) = subst AllApart (ap (λ m. m.marks v) (query_roll marked mark_steps (record { distinct = distinct; items = (map (λ z. z.0) items); from = (map (λ z. z.0) from); filter = None; group = group; having = (Some having.0) }))) h in let k : AllApart (of_each marking.item (map m_item (map (λ z. z.0) items)) (inside v (tables_of (map marking.chain (map m_chain (map (λ z. z.0) from))))) ++ (chains_marks v (calls_of (tables_of (map marking.chain (map m_chain (map (λ z. z.0) from))))) [] (map marking.chain (map m_chain (map (λ z. z.0) from))) ++ ([] ++ (map (column (inside v (tables_of (map marking.chain (map m_chain (map (λ z. z.0) from))))).seen) group ++ ((m_cond having.0).marks (inside v (tables_of (map marking.chain (map m_chain (map (λ z. z.0) from)))))))))) = g.1 in along (l.SameAnswers v w) _ (query_step C (record { distinct = distinct; items = (map t_item (map (λ z. z.0) items)); from = (map t_chain (map (λ z. z.0) from)); filter = None; group = group; having = (Some (t_cond having.0)) })) _ (query_step C (record { distinct = distinct; items = (map t_item (all_at (inside v (tables_of (map marking.chain (map m_chain (map (λ z. z.0) from))))).seen (map c_item (map (λ z. z.0) items)))); from = (map t_chain (map (λ c. c.chain v.seen) (map c_chain (map (λ z. z.0) from)))); filter = None; group = (map (with_item C (inside v (tables_of (map marking.chain (map m_chain (map (λ z. z.0) from))))).seen) group); having = (Some (t_cond ((c_cond having.0).at (inside v (tables_of (map marking.chain (map m_chain (map (λ z. z.0) from))))).seen))) })) (query_roll typing (steps C) (record { distinct = distinct; items = (map (λ z. z.0) items); from = (map (λ z. z.0) from); filter = None; group = group; having = (Some having.0) })) (ap (λ z. t_query (z.at v.seen)) (query_roll qualifying (qualify_steps C) (record { distinct = distinct; items = (map (λ z. z.0) items); from = (map (λ z. z.0) from); filter = None; group = group; having = (Some having.0) })) ∙ (λ i. t_query (query_in C v.seen (items_in v.seen (chains_tabs from i) ++ v.seen) (record { distinct = distinct; items = map c_item (map (λ z. z.0) items); from = map c_chain (map (λ z. z.0) from); filter = None; group = group; having = Some (c_cond having.0) }))) ∙ query_roll typing (steps C) (record { distinct = distinct; items = (all_at (inside v (tables_of (map marking.chain (map m_chain (map (λ z. z.0) from))))).seen (map c_item (map (λ z. z.0) items))); from = (map (λ c. c.chain v.seen) (map c_chain (map (λ z. z.0) from))); filter = None; group = map (with_item C (inside v (tables_of (map marking.chain (map m_chain (map (λ z. z.0) from))))).seen) group; having = (Some ((c_cond having.0).at (inside v (tables_of (map marking.chain (map m_chain (map (λ z. z.0) from))))).seen)) })) (query.query_same C v w s (tables_of (map marking.chain (map m_chain (map (λ z. z.0) from)))) (inside_like C v w (tables_of (map marking.chain (map m_chain (map (λ z. z.0) from)))) s) distinct group (before (map (column (inside v (tables_of (map marking.chain (map m_chain (map (λ z. z.0) from))))).seen) group) ((m_cond having.0).marks (inside v (tables_of (map marking.chain (map m_chain (map (λ z. z.0) from)))))) (after ([]) (map (column (inside v (tables_of (map marking.chain (map m_chain (map (λ z. z.0) from))))).seen) group ++ ((m_cond having.0).marks (inside v (tables_of (map marking.chain (map m_chain (map (λ z. z.0) from))))))) (after (chains_marks v (calls_of (tables_of (map marking.chain (map m_chain (map (λ z. z.0) from))))) [] (map marking.chain (map m_chain (map (λ z. z.0) from)))) ([] ++ (map (column (inside v (tables_of (map marking.chain (map m_chain (map (λ z. z.0) from))))).seen) group ++ ((m_cond having.0).marks (inside v (tables_of (map marking.chain (map m_chain (map (λ z. z.0) from)))))))) (after (of_each marking.item (map m_item (map (λ z. z.0) items)) (inside v (tables_of (map marking.chain (map m_chain (map (λ z. z.0) from)))))) (chains_marks v (calls_of (tables_of (map marking.chain (map m_chain (map (λ z. z.0) from))))) [] (map marking.chain (map m_chain (map (λ z. z.0) from))) ++ ([] ++ (map (column (inside v (tables_of (map marking.chain (map m_chain (map (λ z. z.0) from))))).seen) group ++ ((m_cond having.0).marks (inside v (tables_of (map marking.chain (map m_chain (map (λ z. z.0) from))))))))) k)))) (map t_item (map (λ z. z.0) items)) (map t_item (all_at (inside v (tables_of (map marking.chain (map m_chain (map (λ z. z.0) from))))).seen (map c_item (map (λ z. z.0) items)))) (each (λ v w. l.SameShows v w) c_item m_item t_item items (inside v (tables_of (map marking.chain (map m_chain (map (λ z. z.0) from))))) (inside w (tables_of (map marking.chain (map m_chain (map (λ z. z.0) from))))) (inside_like C v w (tables_of (map marking.chain (map m_chain (map (λ z. z.0) from)))) s) (before (of_each marking.item (map m_item (map (λ z. z.0) items)) (inside v (tables_of (map marking.chain (map m_chain (map (λ z. z.0) from)))))) (chains_marks v (calls_of (tables_of (map marking.chain (map m_chain (map (λ z. z.0) from))))) [] (map marking.chain (map m_chain (map (λ z. z.0) from))) ++ ([] ++ (map (column (inside v (tables_of (map marking.chain (map m_chain (map (λ z. z.0) from))))).seen) group ++ ((m_cond having.0).marks (inside v (tables_of (map marking.chain (map m_chain (map (λ z. z.0) from))))))))) k)) (map t_chain (map (λ z. z.0) from)) (map t_chain (map (λ c. c.chain v.seen) (map c_chain (map (λ z. z.0) from)))) (chains_typed_same from v w s (calls_of (tables_of (map marking.chain (map m_chain (map (λ z. z.0) from))))) [] (before (chains_marks v (calls_of (tables_of (map marking.chain (map m_chain (map (λ z. z.0) from))))) [] (map marking.chain (map m_chain (map (λ z. z.0) from)))) ([] ++ (map (column (inside v (tables_of (map marking.chain (map m_chain (map (λ z. z.0) from))))).seen) group ++ ((m_cond having.0).marks (inside v (tables_of (map marking.chain (map m_chain (map (λ z. z.0) from)))))))) (after (of_each marking.item (map m_item (map (λ z. z.0) items)) (inside v (tables_of (map marking.chain (map m_chain (map (λ z. z.0) from)))))) (chains_marks v (calls_of (tables_of (map marking.chain (map m_chain (map (λ z. z.0) from))))) [] (map marking.chain (map m_chain (map (λ z. z.0) from))) ++ ([] ++ (map (column (inside v (tables_of (map marking.chain (map m_chain (map (λ z. z.0) from))))).seen) group ++ ((m_cond having.0).marks (inside v (tables_of (map marking.chain (map m_chain (map (λ z. z.0) from))))))))) k))) None None tt (Some (t_cond having.0)) (Some (t_cond ((c_cond having.0).at (inside v (tables_of (map marking.chain (map m_chain (map (λ z. z.0) from))))).seen))) (having.1 (inside v (tables_of (map marking.chain (map m_chain (map (λ z. z.0) from))))) (inside w (tables_of (map marking.chain (map m_chain (map (λ z. z.0) from))))) (inside_like C v w (tables_of (map marking.chain (map m_chain (map (λ z. z.0) from)))) s) (after (map (column (inside v (tables_of (map marking.chain (map m_chain (map (λ z. z.0) from))))).seen) group) ((m_cond having.0).marks (inside v (tables_of (map marking.chain (map m_chain (map (λ z. z.0) from)))))) (after ([]) (map (column (inside v (tables_of (map marking.chain (map m_chain (map (λ z. z.0) from))))).seen) group ++ ((m_cond having.0).marks (inside v (tables_of (map marking.chain (map m_chain (map (λ z. z.0) from))))))) (after (chains_marks v (calls_of (tables_of (map marking.chain (map m_chain (map (λ z. z.0) from))))) [] (map marking.chain (map m_chain (map (λ z. z.0) from)))) ([] ++ (map (column (inside v (tables_of (map marking.chain (map m_chain (map (λ z. z.0) from))))).seen) group ++ ((m_cond having.0).marks (inside v (tables_of (map marking.chain (map m_chain (map (λ z. z.0) from)))))))) (after (of_each marking.item (map m_item (map (λ z. z.0) items)) (inside v (tables_of (map marking.chain (map m_chain (map (λ z. z.0) from)))))) (chains_marks v (calls_of (tables_of (map marking.chain (map m_chain (map (λ z. z.0) from))))) [] (map marking.chain (map m_chain (map (λ z. z.0) from))) ++ ([] ++ (map (column (inside v (tables_of (map marking.chain (map m_chain (map (λ z. z.0) from))))).seen) group ++ ((m_cond having.0).marks (inside v (tables_of (map marking.chain (map m_chain (map (λ z. z.0) from))))))))) k))))) (tables_path (map (λ z. z.0) from)) (tables_path (map (λ c. c.chain v.seen) (map c_chain (map (λ z. z.0) from))) ∙ sym (forms_tables (map (λ z. z.0) from) v w s)))
-  query_good distinct items from (Some filter) group None = λ v w s h. let g : AllApart (enter (items_in v.seen (tables_of (map marking.chain (map m_chain (map (λ z. z.0) from))))) ∷ (of_each marking.item (map m_item (map (λ z. z.0) items)) (inside v (tables_of (map marking.chain (map m_chain (map (λ z. z.0) from))))) ++ (chains_marks v (calls_of (tables_of (map marking.chain (map m_chain (map (λ z. z.0) from))))) [] (map marking.chain (map m_chain (map (λ z. z.0) from))) ++ ((m_cond filter.0).marks (inside v (tables_of (map marking.chain (map m_chain (map (λ z. z.0) from))))) ++ (map (column (inside v (tables_of (map marking.chain (map m_chain (map (λ z. z.0) from))))).seen) group ++ ([])))))) = subst AllApart (ap (λ m. m.marks v) (query_roll marked mark_steps (record { distinct = distinct; items = (map (λ z. z.0) items); from = (map (λ z. z.0) from); filter = (Some filter.0); group = group; having = None }))) h in let k : AllApart (of_each marking.item (map m_item (map (λ z. z.0) items)) (inside v (tables_of (map marking.chain (map m_chain (map (λ z. z.0) from))))) ++ (chains_marks v (calls_of (tables_of (map marking.chain (map m_chain (map (λ z. z.0) from))))) [] (map marking.chain (map m_chain (map (λ z. z.0) from))) ++ ((m_cond filter.0).marks (inside v (tables_of (map marking.chain (map m_chain (map (λ z. z.0) from))))) ++ (map (column (inside v (tables_of (map marking.chain (map m_chain (map (λ z. z.0) from))))).seen) group ++ ([]))))) = g.1 in along (l.SameAnswers v w) _ (query_step C (record { distinct = distinct; items = (map t_item (map (λ z. z.0) items)); from = (map t_chain (map (λ z. z.0) from)); filter = (Some (t_cond filter.0)); group = group; having = None })) _ (query_step C (record { distinct = distinct; items = (map t_item (all_at (inside v (tables_of (map marking.chain (map m_chain (map (λ z. z.0) from))))).seen (map c_item (map (λ z. z.0) items)))); from = (map t_chain (map (λ c. c.chain v.seen) (map c_chain (map (λ z. z.0) from)))); filter = (Some (t_cond ((c_cond filter.0).at (inside v (tables_of (map marking.chain (map m_chain (map (λ z. z.0) from))))).seen))); group = (map (with_item C (inside v (tables_of (map marking.chain (map m_chain (map (λ z. z.0) from))))).seen) group); having = None })) (query_roll typing (steps C) (record { distinct = distinct; items = (map (λ z. z.0) items); from = (map (λ z. z.0) from); filter = (Some filter.0); group = group; having = None })) (ap (λ z. t_query (z.at v.seen)) (query_roll qualifying (qualify_steps C) (record { distinct = distinct; items = (map (λ z. z.0) items); from = (map (λ z. z.0) from); filter = (Some filter.0); group = group; having = None })) ∙ (λ i. t_query (query_in C v.seen (items_in v.seen (chains_tabs from i) ++ v.seen) (record { distinct = distinct; items = map c_item (map (λ z. z.0) items); from = map c_chain (map (λ z. z.0) from); filter = Some (c_cond filter.0); group = group; having = None }))) ∙ query_roll typing (steps C) (record { distinct = distinct; items = (all_at (inside v (tables_of (map marking.chain (map m_chain (map (λ z. z.0) from))))).seen (map c_item (map (λ z. z.0) items))); from = (map (λ c. c.chain v.seen) (map c_chain (map (λ z. z.0) from))); filter = (Some ((c_cond filter.0).at (inside v (tables_of (map marking.chain (map m_chain (map (λ z. z.0) from))))).seen)); group = map (with_item C (inside v (tables_of (map marking.chain (map m_chain (map (λ z. z.0) from))))).seen) group; having = None })) (query.query_same C v w s (tables_of (map marking.chain (map m_chain (map (λ z. z.0) from)))) (inside_like C v w (tables_of (map marking.chain (map m_chain (map (λ z. z.0) from)))) s) distinct group (before (map (column (inside v (tables_of (map marking.chain (map m_chain (map (λ z. z.0) from))))).seen) group) ([]) (after ((m_cond filter.0).marks (inside v (tables_of (map marking.chain (map m_chain (map (λ z. z.0) from)))))) (map (column (inside v (tables_of (map marking.chain (map m_chain (map (λ z. z.0) from))))).seen) group ++ ([])) (after (chains_marks v (calls_of (tables_of (map marking.chain (map m_chain (map (λ z. z.0) from))))) [] (map marking.chain (map m_chain (map (λ z. z.0) from)))) ((m_cond filter.0).marks (inside v (tables_of (map marking.chain (map m_chain (map (λ z. z.0) from))))) ++ (map (column (inside v (tables_of (map marking.chain (map m_chain (map (λ z. z.0) from))))).seen) group ++ ([]))) (after (of_each marking.item (map m_item (map (λ z. z.0) items)) (inside v (tables_of (map marking.chain (map m_chain (map (λ z. z.0) from)))))) (chains_marks v (calls_of (tables_of (map marking.chain (map m_chain (map (λ z. z.0) from))))) [] (map marking.chain (map m_chain (map (λ z. z.0) from))) ++ ((m_cond filter.0).marks (inside v (tables_of (map marking.chain (map m_chain (map (λ z. z.0) from))))) ++ (map (column (inside v (tables_of (map marking.chain (map m_chain (map (λ z. z.0) from))))).seen) group ++ ([])))) k)))) (map t_item (map (λ z. z.0) items)) (map t_item (all_at (inside v (tables_of (map marking.chain (map m_chain (map (λ z. z.0) from))))).seen (map c_item (map (λ z. z.0) items)))) (each (λ v w. l.SameShows v w) c_item m_item t_item items (inside v (tables_of (map marking.chain (map m_chain (map (λ z. z.0) from))))) (inside w (tables_of (map marking.chain (map m_chain (map (λ z. z.0) from))))) (inside_like C v w (tables_of (map marking.chain (map m_chain (map (λ z. z.0) from)))) s) (before (of_each marking.item (map m_item (map (λ z. z.0) items)) (inside v (tables_of (map marking.chain (map m_chain (map (λ z. z.0) from)))))) (chains_marks v (calls_of (tables_of (map marking.chain (map m_chain (map (λ z. z.0) from))))) [] (map marking.chain (map m_chain (map (λ z. z.0) from))) ++ ((m_cond filter.0).marks (inside v (tables_of (map marking.chain (map m_chain (map (λ z. z.0) from))))) ++ (map (column (inside v (tables_of (map marking.chain (map m_chain (map (λ z. z.0) from))))).seen) group ++ ([])))) k)) (map t_chain (map (λ z. z.0) from)) (map t_chain (map (λ c. c.chain v.seen) (map c_chain (map (λ z. z.0) from)))) (chains_typed_same from v w s (calls_of (tables_of (map marking.chain (map m_chain (map (λ z. z.0) from))))) [] (before (chains_marks v (calls_of (tables_of (map marking.chain (map m_chain (map (λ z. z.0) from))))) [] (map marking.chain (map m_chain (map (λ z. z.0) from)))) ((m_cond filter.0).marks (inside v (tables_of (map marking.chain (map m_chain (map (λ z. z.0) from))))) ++ (map (column (inside v (tables_of (map marking.chain (map m_chain (map (λ z. z.0) from))))).seen) group ++ ([]))) (after (of_each marking.item (map m_item (map (λ z. z.0) items)) (inside v (tables_of (map marking.chain (map m_chain (map (λ z. z.0) from)))))) (chains_marks v (calls_of (tables_of (map marking.chain (map m_chain (map (λ z. z.0) from))))) [] (map marking.chain (map m_chain (map (λ z. z.0) from))) ++ ((m_cond filter.0).marks (inside v (tables_of (map marking.chain (map m_chain (map (λ z. z.0) from))))) ++ (map (column (inside v (tables_of (map marking.chain (map m_chain (map (λ z. z.0) from))))).seen) group ++ ([])))) k))) (Some (t_cond filter.0)) (Some (t_cond ((c_cond filter.0).at (inside v (tables_of (map marking.chain (map m_chain (map (λ z. z.0) from))))).seen))) (filter.1 (inside v (tables_of (map marking.chain (map m_chain (map (λ z. z.0) from))))) (inside w (tables_of (map marking.chain (map m_chain (map (λ z. z.0) from))))) (inside_like C v w (tables_of (map marking.chain (map m_chain (map (λ z. z.0) from)))) s) (before ((m_cond filter.0).marks (inside v (tables_of (map marking.chain (map m_chain (map (λ z. z.0) from)))))) (map (column (inside v (tables_of (map marking.chain (map m_chain (map (λ z. z.0) from))))).seen) group ++ ([])) (after (chains_marks v (calls_of (tables_of (map marking.chain (map m_chain (map (λ z. z.0) from))))) [] (map marking.chain (map m_chain (map (λ z. z.0) from)))) ((m_cond filter.0).marks (inside v (tables_of (map marking.chain (map m_chain (map (λ z. z.0) from))))) ++ (map (column (inside v (tables_of (map marking.chain (map m_chain (map (λ z. z.0) from))))).seen) group ++ ([]))) (after (of_each marking.item (map m_item (map (λ z. z.0) items)) (inside v (tables_of (map marking.chain (map m_chain (map (λ z. z.0) from)))))) (chains_marks v (calls_of (tables_of (map marking.chain (map m_chain (map (λ z. z.0) from))))) [] (map marking.chain (map m_chain (map (λ z. z.0) from))) ++ ((m_cond filter.0).marks (inside v (tables_of (map marking.chain (map m_chain (map (λ z. z.0) from))))) ++ (map (column (inside v (tables_of (map marking.chain (map m_chain (map (λ z. z.0) from))))).seen) group ++ ([])))) k)))) None None tt (tables_path (map (λ z. z.0) from)) (tables_path (map (λ c. c.chain v.seen) (map c_chain (map (λ z. z.0) from))) ∙ sym (forms_tables (map (λ z. z.0) from) v w s)))
-  query_good distinct items from (Some filter) group (Some having) = λ v w s h. let g : AllApart (enter (items_in v.seen (tables_of (map marking.chain (map m_chain (map (λ z. z.0) from))))) ∷ (of_each marking.item (map m_item (map (λ z. z.0) items)) (inside v (tables_of (map marking.chain (map m_chain (map (λ z. z.0) from))))) ++ (chains_marks v (calls_of (tables_of (map marking.chain (map m_chain (map (λ z. z.0) from))))) [] (map marking.chain (map m_chain (map (λ z. z.0) from))) ++ ((m_cond filter.0).marks (inside v (tables_of (map marking.chain (map m_chain (map (λ z. z.0) from))))) ++ (map (column (inside v (tables_of (map marking.chain (map m_chain (map (λ z. z.0) from))))).seen) group ++ ((m_cond having.0).marks (inside v (tables_of (map marking.chain (map m_chain (map (λ z. z.0) from))))))))))) = subst AllApart (ap (λ m. m.marks v) (query_roll marked mark_steps (record { distinct = distinct; items = (map (λ z. z.0) items); from = (map (λ z. z.0) from); filter = (Some filter.0); group = group; having = (Some having.0) }))) h in let k : AllApart (of_each marking.item (map m_item (map (λ z. z.0) items)) (inside v (tables_of (map marking.chain (map m_chain (map (λ z. z.0) from))))) ++ (chains_marks v (calls_of (tables_of (map marking.chain (map m_chain (map (λ z. z.0) from))))) [] (map marking.chain (map m_chain (map (λ z. z.0) from))) ++ ((m_cond filter.0).marks (inside v (tables_of (map marking.chain (map m_chain (map (λ z. z.0) from))))) ++ (map (column (inside v (tables_of (map marking.chain (map m_chain (map (λ z. z.0) from))))).seen) group ++ ((m_cond having.0).marks (inside v (tables_of (map marking.chain (map m_chain (map (λ z. z.0) from)))))))))) = g.1 in along (l.SameAnswers v w) _ (query_step C (record { distinct = distinct; items = (map t_item (map (λ z. z.0) items)); from = (map t_chain (map (λ z. z.0) from)); filter = (Some (t_cond filter.0)); group = group; having = (Some (t_cond having.0)) })) _ (query_step C (record { distinct = distinct; items = (map t_item (all_at (inside v (tables_of (map marking.chain (map m_chain (map (λ z. z.0) from))))).seen (map c_item (map (λ z. z.0) items)))); from = (map t_chain (map (λ c. c.chain v.seen) (map c_chain (map (λ z. z.0) from)))); filter = (Some (t_cond ((c_cond filter.0).at (inside v (tables_of (map marking.chain (map m_chain (map (λ z. z.0) from))))).seen))); group = (map (with_item C (inside v (tables_of (map marking.chain (map m_chain (map (λ z. z.0) from))))).seen) group); having = (Some (t_cond ((c_cond having.0).at (inside v (tables_of (map marking.chain (map m_chain (map (λ z. z.0) from))))).seen))) })) (query_roll typing (steps C) (record { distinct = distinct; items = (map (λ z. z.0) items); from = (map (λ z. z.0) from); filter = (Some filter.0); group = group; having = (Some having.0) })) (ap (λ z. t_query (z.at v.seen)) (query_roll qualifying (qualify_steps C) (record { distinct = distinct; items = (map (λ z. z.0) items); from = (map (λ z. z.0) from); filter = (Some filter.0); group = group; having = (Some having.0) })) ∙ (λ i. t_query (query_in C v.seen (items_in v.seen (chains_tabs from i) ++ v.seen) (record { distinct = distinct; items = map c_item (map (λ z. z.0) items); from = map c_chain (map (λ z. z.0) from); filter = Some (c_cond filter.0); group = group; having = Some (c_cond having.0) }))) ∙ query_roll typing (steps C) (record { distinct = distinct; items = (all_at (inside v (tables_of (map marking.chain (map m_chain (map (λ z. z.0) from))))).seen (map c_item (map (λ z. z.0) items))); from = (map (λ c. c.chain v.seen) (map c_chain (map (λ z. z.0) from))); filter = (Some ((c_cond filter.0).at (inside v (tables_of (map marking.chain (map m_chain (map (λ z. z.0) from))))).seen)); group = map (with_item C (inside v (tables_of (map marking.chain (map m_chain (map (λ z. z.0) from))))).seen) group; having = (Some ((c_cond having.0).at (inside v (tables_of (map marking.chain (map m_chain (map (λ z. z.0) from))))).seen)) })) (query.query_same C v w s (tables_of (map marking.chain (map m_chain (map (λ z. z.0) from)))) (inside_like C v w (tables_of (map marking.chain (map m_chain (map (λ z. z.0) from)))) s) distinct group (before (map (column (inside v (tables_of (map marking.chain (map m_chain (map (λ z. z.0) from))))).seen) group) ((m_cond having.0).marks (inside v (tables_of (map marking.chain (map m_chain (map (λ z. z.0) from)))))) (after ((m_cond filter.0).marks (inside v (tables_of (map marking.chain (map m_chain (map (λ z. z.0) from)))))) (map (column (inside v (tables_of (map marking.chain (map m_chain (map (λ z. z.0) from))))).seen) group ++ ((m_cond having.0).marks (inside v (tables_of (map marking.chain (map m_chain (map (λ z. z.0) from))))))) (after (chains_marks v (calls_of (tables_of (map marking.chain (map m_chain (map (λ z. z.0) from))))) [] (map marking.chain (map m_chain (map (λ z. z.0) from)))) ((m_cond filter.0).marks (inside v (tables_of (map marking.chain (map m_chain (map (λ z. z.0) from))))) ++ (map (column (inside v (tables_of (map marking.chain (map m_chain (map (λ z. z.0) from))))).seen) group ++ ((m_cond having.0).marks (inside v (tables_of (map marking.chain (map m_chain (map (λ z. z.0) from)))))))) (after (of_each marking.item (map m_item (map (λ z. z.0) items)) (inside v (tables_of (map marking.chain (map m_chain (map (λ z. z.0) from)))))) (chains_marks v (calls_of (tables_of (map marking.chain (map m_chain (map (λ z. z.0) from))))) [] (map marking.chain (map m_chain (map (λ z. z.0) from))) ++ ((m_cond filter.0).marks (inside v (tables_of (map marking.chain (map m_chain (map (λ z. z.0) from))))) ++ (map (column (inside v (tables_of (map marking.chain (map m_chain (map (λ z. z.0) from))))).seen) group ++ ((m_cond having.0).marks (inside v (tables_of (map marking.chain (map m_chain (map (λ z. z.0) from))))))))) k)))) (map t_item (map (λ z. z.0) items)) (map t_item (all_at (inside v (tables_of (map marking.chain (map m_chain (map (λ z. z.0) from))))).seen (map c_item (map (λ z. z.0) items)))) (each (λ v w. l.SameShows v w) c_item m_item t_item items (inside v (tables_of (map marking.chain (map m_chain (map (λ z. z.0) from))))) (inside w (tables_of (map marking.chain (map m_chain (map (λ z. z.0) from))))) (inside_like C v w (tables_of (map marking.chain (map m_chain (map (λ z. z.0) from)))) s) (before (of_each marking.item (map m_item (map (λ z. z.0) items)) (inside v (tables_of (map marking.chain (map m_chain (map (λ z. z.0) from)))))) (chains_marks v (calls_of (tables_of (map marking.chain (map m_chain (map (λ z. z.0) from))))) [] (map marking.chain (map m_chain (map (λ z. z.0) from))) ++ ((m_cond filter.0).marks (inside v (tables_of (map marking.chain (map m_chain (map (λ z. z.0) from))))) ++ (map (column (inside v (tables_of (map marking.chain (map m_chain (map (λ z. z.0) from))))).seen) group ++ ((m_cond having.0).marks (inside v (tables_of (map marking.chain (map m_chain (map (λ z. z.0) from))))))))) k)) (map t_chain (map (λ z. z.0) from)) (map t_chain (map (λ c. c.chain v.seen) (map c_chain (map (λ z. z.0) from)))) (chains_typed_same from v w s (calls_of (tables_of (map marking.chain (map m_chain (map (λ z. z.0) from))))) [] (before (chains_marks v (calls_of (tables_of (map marking.chain (map m_chain (map (λ z. z.0) from))))) [] (map marking.chain (map m_chain (map (λ z. z.0) from)))) ((m_cond filter.0).marks (inside v (tables_of (map marking.chain (map m_chain (map (λ z. z.0) from))))) ++ (map (column (inside v (tables_of (map marking.chain (map m_chain (map (λ z. z.0) from))))).seen) group ++ ((m_cond having.0).marks (inside v (tables_of (map marking.chain (map m_chain (map (λ z. z.0) from)))))))) (after (of_each marking.item (map m_item (map (λ z. z.0) items)) (inside v (tables_of (map marking.chain (map m_chain (map (λ z. z.0) from)))))) (chains_marks v (calls_of (tables_of (map marking.chain (map m_chain (map (λ z. z.0) from))))) [] (map marking.chain (map m_chain (map (λ z. z.0) from))) ++ ((m_cond filter.0).marks (inside v (tables_of (map marking.chain (map m_chain (map (λ z. z.0) from))))) ++ (map (column (inside v (tables_of (map marking.chain (map m_chain (map (λ z. z.0) from))))).seen) group ++ ((m_cond having.0).marks (inside v (tables_of (map marking.chain (map m_chain (map (λ z. z.0) from))))))))) k))) (Some (t_cond filter.0)) (Some (t_cond ((c_cond filter.0).at (inside v (tables_of (map marking.chain (map m_chain (map (λ z. z.0) from))))).seen))) (filter.1 (inside v (tables_of (map marking.chain (map m_chain (map (λ z. z.0) from))))) (inside w (tables_of (map marking.chain (map m_chain (map (λ z. z.0) from))))) (inside_like C v w (tables_of (map marking.chain (map m_chain (map (λ z. z.0) from)))) s) (before ((m_cond filter.0).marks (inside v (tables_of (map marking.chain (map m_chain (map (λ z. z.0) from)))))) (map (column (inside v (tables_of (map marking.chain (map m_chain (map (λ z. z.0) from))))).seen) group ++ ((m_cond having.0).marks (inside v (tables_of (map marking.chain (map m_chain (map (λ z. z.0) from))))))) (after (chains_marks v (calls_of (tables_of (map marking.chain (map m_chain (map (λ z. z.0) from))))) [] (map marking.chain (map m_chain (map (λ z. z.0) from)))) ((m_cond filter.0).marks (inside v (tables_of (map marking.chain (map m_chain (map (λ z. z.0) from))))) ++ (map (column (inside v (tables_of (map marking.chain (map m_chain (map (λ z. z.0) from))))).seen) group ++ ((m_cond having.0).marks (inside v (tables_of (map marking.chain (map m_chain (map (λ z. z.0) from)))))))) (after (of_each marking.item (map m_item (map (λ z. z.0) items)) (inside v (tables_of (map marking.chain (map m_chain (map (λ z. z.0) from)))))) (chains_marks v (calls_of (tables_of (map marking.chain (map m_chain (map (λ z. z.0) from))))) [] (map marking.chain (map m_chain (map (λ z. z.0) from))) ++ ((m_cond filter.0).marks (inside v (tables_of (map marking.chain (map m_chain (map (λ z. z.0) from))))) ++ (map (column (inside v (tables_of (map marking.chain (map m_chain (map (λ z. z.0) from))))).seen) group ++ ((m_cond having.0).marks (inside v (tables_of (map marking.chain (map m_chain (map (λ z. z.0) from))))))))) k)))) (Some (t_cond having.0)) (Some (t_cond ((c_cond having.0).at (inside v (tables_of (map marking.chain (map m_chain (map (λ z. z.0) from))))).seen))) (having.1 (inside v (tables_of (map marking.chain (map m_chain (map (λ z. z.0) from))))) (inside w (tables_of (map marking.chain (map m_chain (map (λ z. z.0) from))))) (inside_like C v w (tables_of (map marking.chain (map m_chain (map (λ z. z.0) from)))) s) (after (map (column (inside v (tables_of (map marking.chain (map m_chain (map (λ z. z.0) from))))).seen) group) ((m_cond having.0).marks (inside v (tables_of (map marking.chain (map m_chain (map (λ z. z.0) from)))))) (after ((m_cond filter.0).marks (inside v (tables_of (map marking.chain (map m_chain (map (λ z. z.0) from)))))) (map (column (inside v (tables_of (map marking.chain (map m_chain (map (λ z. z.0) from))))).seen) group ++ ((m_cond having.0).marks (inside v (tables_of (map marking.chain (map m_chain (map (λ z. z.0) from))))))) (after (chains_marks v (calls_of (tables_of (map marking.chain (map m_chain (map (λ z. z.0) from))))) [] (map marking.chain (map m_chain (map (λ z. z.0) from)))) ((m_cond filter.0).marks (inside v (tables_of (map marking.chain (map m_chain (map (λ z. z.0) from))))) ++ (map (column (inside v (tables_of (map marking.chain (map m_chain (map (λ z. z.0) from))))).seen) group ++ ((m_cond having.0).marks (inside v (tables_of (map marking.chain (map m_chain (map (λ z. z.0) from)))))))) (after (of_each marking.item (map m_item (map (λ z. z.0) items)) (inside v (tables_of (map marking.chain (map m_chain (map (λ z. z.0) from)))))) (chains_marks v (calls_of (tables_of (map marking.chain (map m_chain (map (λ z. z.0) from))))) [] (map marking.chain (map m_chain (map (λ z. z.0) from))) ++ ((m_cond filter.0).marks (inside v (tables_of (map marking.chain (map m_chain (map (λ z. z.0) from))))) ++ (map (column (inside v (tables_of (map marking.chain (map m_chain (map (λ z. z.0) from))))).seen) group ++ ((m_cond having.0).marks (inside v (tables_of (map marking.chain (map m_chain (map (λ z. z.0) from))))))))) k))))) (tables_path (map (λ z. z.0) from)) (tables_path (map (λ c. c.chain v.seen) (map c_chain (map (λ z. z.0) from))) ∙ sym (forms_tables (map (λ z. z.0) from) v w s)))
+  query_good distinct items from None group None = λ v w s h. let g : AllApart (enter (items_in v.seen (tables_of (map marking.chain (map m_chain (map (λ z. z.0) from))))) ∷ (of_each marking.item (map m_item (map (λ z. z.0) items)) (inside v (tables_of (map marking.chain (map m_chain (map (λ z. z.0) from))))) ++ (chains_marks v (calls_of (tables_of (map marking.chain (map m_chain (map (λ z. z.0) from))))) [] (map marking.chain (map m_chain (map (λ z. z.0) from))) ++ ([] ++ (map (column (inside v (tables_of (map marking.chain (map m_chain (map (λ z. z.0) from))))).seen) group ++ ([])))))) = subst AllApart (ap (λ m. m.marks v) (query_roll marked mark_steps (record { distinct = distinct; items = (map (λ z. z.0) items); from = (map (λ z. z.0) from); filter = None; group = group; having = None }))) h in let k : AllApart (of_each marking.item (map m_item (map (λ z. z.0) items)) (inside v (tables_of (map marking.chain (map m_chain (map (λ z. z.0) from))))) ++ (chains_marks v (calls_of (tables_of (map marking.chain (map m_chain (map (λ z. z.0) from))))) [] (map marking.chain (map m_chain (map (λ z. z.0) from))) ++ ([] ++ (map (column (inside v (tables_of (map marking.chain (map m_chain (map (λ z. z.0) from))))).seen) group ++ ([]))))) = g.1 in along (l.SameAnswers v w) _ (query_step C (record { distinct = distinct; items = (map t_item (map (λ z. z.0) items)); from = (map t_chain (map (λ z. z.0) from)); filter = None; group = group; having = None })) _ (query_step C (record { distinct = distinct; items = (map t_item (all_at (inside v (tables_of (map marking.chain (map m_chain (map (λ z. z.0) from))))).seen (map c_item (map (λ z. z.0) items)))); from = (map t_chain (map (λ c. c.chain v.seen) (map c_chain (map (λ z. z.0) from)))); filter = None; group = (map (with_item C (inside v (tables_of (map marking.chain (map m_chain (map (λ z. z.0) from))))).seen) group); having = None })) (query_roll typing (steps C) (record { distinct = distinct; items = (map (λ z. z.0) items); from = (map (λ z. z.0) from); filter = None; group = group; having = None })) (ap (λ z. t_query (z.at v.seen)) (query_roll qualifying (qualify_steps C) (record { distinct = distinct; items = (map (λ z. z.0) items); from = (map (λ z. z.0) from); filter = None; group = group; having = None })) ∙ (λ i. t_query (query_in C v.seen (items_in v.seen (chains_tabs from i) ++ v.seen) (record { distinct = distinct; items = map c_item (map (λ z. z.0) items); from = map c_chain (map (λ z. z.0) from); filter = None; group = group; having = None }))) ∙ query_roll typing (steps C) (record { distinct = distinct; items = (all_at (inside v (tables_of (map marking.chain (map m_chain (map (λ z. z.0) from))))).seen (map c_item (map (λ z. z.0) items))); from = (map (λ c. c.chain v.seen) (map c_chain (map (λ z. z.0) from))); filter = None; group = map (with_item C (inside v (tables_of (map marking.chain (map m_chain (map (λ z. z.0) from))))).seen) group; having = None })) (query.query_same C v w s (tables_of (map marking.chain (map m_chain (map (λ z. z.0) from)))) (inside_like v w (tables_of (map marking.chain (map m_chain (map (λ z. z.0) from)))) s) distinct group (before (map (column (inside v (tables_of (map marking.chain (map m_chain (map (λ z. z.0) from))))).seen) group) ([]) (after ([]) (map (column (inside v (tables_of (map marking.chain (map m_chain (map (λ z. z.0) from))))).seen) group ++ ([])) (after (chains_marks v (calls_of (tables_of (map marking.chain (map m_chain (map (λ z. z.0) from))))) [] (map marking.chain (map m_chain (map (λ z. z.0) from)))) ([] ++ (map (column (inside v (tables_of (map marking.chain (map m_chain (map (λ z. z.0) from))))).seen) group ++ ([]))) (after (of_each marking.item (map m_item (map (λ z. z.0) items)) (inside v (tables_of (map marking.chain (map m_chain (map (λ z. z.0) from)))))) (chains_marks v (calls_of (tables_of (map marking.chain (map m_chain (map (λ z. z.0) from))))) [] (map marking.chain (map m_chain (map (λ z. z.0) from))) ++ ([] ++ (map (column (inside v (tables_of (map marking.chain (map m_chain (map (λ z. z.0) from))))).seen) group ++ ([])))) k)))) (map t_item (map (λ z. z.0) items)) (map t_item (all_at (inside v (tables_of (map marking.chain (map m_chain (map (λ z. z.0) from))))).seen (map c_item (map (λ z. z.0) items)))) (each (λ v w. l.SameShows v w) c_item m_item t_item items (inside v (tables_of (map marking.chain (map m_chain (map (λ z. z.0) from))))) (inside w (tables_of (map marking.chain (map m_chain (map (λ z. z.0) from))))) (inside_like v w (tables_of (map marking.chain (map m_chain (map (λ z. z.0) from)))) s) (before (of_each marking.item (map m_item (map (λ z. z.0) items)) (inside v (tables_of (map marking.chain (map m_chain (map (λ z. z.0) from)))))) (chains_marks v (calls_of (tables_of (map marking.chain (map m_chain (map (λ z. z.0) from))))) [] (map marking.chain (map m_chain (map (λ z. z.0) from))) ++ ([] ++ (map (column (inside v (tables_of (map marking.chain (map m_chain (map (λ z. z.0) from))))).seen) group ++ ([])))) k)) (map t_chain (map (λ z. z.0) from)) (map t_chain (map (λ c. c.chain v.seen) (map c_chain (map (λ z. z.0) from)))) (chains_typed_same from v w s (calls_of (tables_of (map marking.chain (map m_chain (map (λ z. z.0) from))))) [] (before (chains_marks v (calls_of (tables_of (map marking.chain (map m_chain (map (λ z. z.0) from))))) [] (map marking.chain (map m_chain (map (λ z. z.0) from)))) ([] ++ (map (column (inside v (tables_of (map marking.chain (map m_chain (map (λ z. z.0) from))))).seen) group ++ ([]))) (after (of_each marking.item (map m_item (map (λ z. z.0) items)) (inside v (tables_of (map marking.chain (map m_chain (map (λ z. z.0) from)))))) (chains_marks v (calls_of (tables_of (map marking.chain (map m_chain (map (λ z. z.0) from))))) [] (map marking.chain (map m_chain (map (λ z. z.0) from))) ++ ([] ++ (map (column (inside v (tables_of (map marking.chain (map m_chain (map (λ z. z.0) from))))).seen) group ++ ([])))) k))) None None tt None None tt (tables_path (map (λ z. z.0) from)) (tables_path (map (λ c. c.chain v.seen) (map c_chain (map (λ z. z.0) from))) ∙ sym (forms_tables (map (λ z. z.0) from) v w s)))
+  query_good distinct items from None group (Some having) = λ v w s h. let g : AllApart (enter (items_in v.seen (tables_of (map marking.chain (map m_chain (map (λ z. z.0) from))))) ∷ (of_each marking.item (map m_item (map (λ z. z.0) items)) (inside v (tables_of (map marking.chain (map m_chain (map (λ z. z.0) from))))) ++ (chains_marks v (calls_of (tables_of (map marking.chain (map m_chain (map (λ z. z.0) from))))) [] (map marking.chain (map m_chain (map (λ z. z.0) from))) ++ ([] ++ (map (column (inside v (tables_of (map marking.chain (map m_chain (map (λ z. z.0) from))))).seen) group ++ ((m_cond having.0).marks (inside v (tables_of (map marking.chain (map m_chain (map (λ z. z.0) from))))))))))) = subst AllApart (ap (λ m. m.marks v) (query_roll marked mark_steps (record { distinct = distinct; items = (map (λ z. z.0) items); from = (map (λ z. z.0) from); filter = None; group = group; having = (Some having.0) }))) h in let k : AllApart (of_each marking.item (map m_item (map (λ z. z.0) items)) (inside v (tables_of (map marking.chain (map m_chain (map (λ z. z.0) from))))) ++ (chains_marks v (calls_of (tables_of (map marking.chain (map m_chain (map (λ z. z.0) from))))) [] (map marking.chain (map m_chain (map (λ z. z.0) from))) ++ ([] ++ (map (column (inside v (tables_of (map marking.chain (map m_chain (map (λ z. z.0) from))))).seen) group ++ ((m_cond having.0).marks (inside v (tables_of (map marking.chain (map m_chain (map (λ z. z.0) from)))))))))) = g.1 in along (l.SameAnswers v w) _ (query_step C (record { distinct = distinct; items = (map t_item (map (λ z. z.0) items)); from = (map t_chain (map (λ z. z.0) from)); filter = None; group = group; having = (Some (t_cond having.0)) })) _ (query_step C (record { distinct = distinct; items = (map t_item (all_at (inside v (tables_of (map marking.chain (map m_chain (map (λ z. z.0) from))))).seen (map c_item (map (λ z. z.0) items)))); from = (map t_chain (map (λ c. c.chain v.seen) (map c_chain (map (λ z. z.0) from)))); filter = None; group = (map (with_item C (inside v (tables_of (map marking.chain (map m_chain (map (λ z. z.0) from))))).seen) group); having = (Some (t_cond ((c_cond having.0).at (inside v (tables_of (map marking.chain (map m_chain (map (λ z. z.0) from))))).seen))) })) (query_roll typing (steps C) (record { distinct = distinct; items = (map (λ z. z.0) items); from = (map (λ z. z.0) from); filter = None; group = group; having = (Some having.0) })) (ap (λ z. t_query (z.at v.seen)) (query_roll qualifying (qualify_steps C) (record { distinct = distinct; items = (map (λ z. z.0) items); from = (map (λ z. z.0) from); filter = None; group = group; having = (Some having.0) })) ∙ (λ i. t_query (query_in C v.seen (items_in v.seen (chains_tabs from i) ++ v.seen) (record { distinct = distinct; items = map c_item (map (λ z. z.0) items); from = map c_chain (map (λ z. z.0) from); filter = None; group = group; having = Some (c_cond having.0) }))) ∙ query_roll typing (steps C) (record { distinct = distinct; items = (all_at (inside v (tables_of (map marking.chain (map m_chain (map (λ z. z.0) from))))).seen (map c_item (map (λ z. z.0) items))); from = (map (λ c. c.chain v.seen) (map c_chain (map (λ z. z.0) from))); filter = None; group = map (with_item C (inside v (tables_of (map marking.chain (map m_chain (map (λ z. z.0) from))))).seen) group; having = (Some ((c_cond having.0).at (inside v (tables_of (map marking.chain (map m_chain (map (λ z. z.0) from))))).seen)) })) (query.query_same C v w s (tables_of (map marking.chain (map m_chain (map (λ z. z.0) from)))) (inside_like v w (tables_of (map marking.chain (map m_chain (map (λ z. z.0) from)))) s) distinct group (before (map (column (inside v (tables_of (map marking.chain (map m_chain (map (λ z. z.0) from))))).seen) group) ((m_cond having.0).marks (inside v (tables_of (map marking.chain (map m_chain (map (λ z. z.0) from)))))) (after ([]) (map (column (inside v (tables_of (map marking.chain (map m_chain (map (λ z. z.0) from))))).seen) group ++ ((m_cond having.0).marks (inside v (tables_of (map marking.chain (map m_chain (map (λ z. z.0) from))))))) (after (chains_marks v (calls_of (tables_of (map marking.chain (map m_chain (map (λ z. z.0) from))))) [] (map marking.chain (map m_chain (map (λ z. z.0) from)))) ([] ++ (map (column (inside v (tables_of (map marking.chain (map m_chain (map (λ z. z.0) from))))).seen) group ++ ((m_cond having.0).marks (inside v (tables_of (map marking.chain (map m_chain (map (λ z. z.0) from)))))))) (after (of_each marking.item (map m_item (map (λ z. z.0) items)) (inside v (tables_of (map marking.chain (map m_chain (map (λ z. z.0) from)))))) (chains_marks v (calls_of (tables_of (map marking.chain (map m_chain (map (λ z. z.0) from))))) [] (map marking.chain (map m_chain (map (λ z. z.0) from))) ++ ([] ++ (map (column (inside v (tables_of (map marking.chain (map m_chain (map (λ z. z.0) from))))).seen) group ++ ((m_cond having.0).marks (inside v (tables_of (map marking.chain (map m_chain (map (λ z. z.0) from))))))))) k)))) (map t_item (map (λ z. z.0) items)) (map t_item (all_at (inside v (tables_of (map marking.chain (map m_chain (map (λ z. z.0) from))))).seen (map c_item (map (λ z. z.0) items)))) (each (λ v w. l.SameShows v w) c_item m_item t_item items (inside v (tables_of (map marking.chain (map m_chain (map (λ z. z.0) from))))) (inside w (tables_of (map marking.chain (map m_chain (map (λ z. z.0) from))))) (inside_like v w (tables_of (map marking.chain (map m_chain (map (λ z. z.0) from)))) s) (before (of_each marking.item (map m_item (map (λ z. z.0) items)) (inside v (tables_of (map marking.chain (map m_chain (map (λ z. z.0) from)))))) (chains_marks v (calls_of (tables_of (map marking.chain (map m_chain (map (λ z. z.0) from))))) [] (map marking.chain (map m_chain (map (λ z. z.0) from))) ++ ([] ++ (map (column (inside v (tables_of (map marking.chain (map m_chain (map (λ z. z.0) from))))).seen) group ++ ((m_cond having.0).marks (inside v (tables_of (map marking.chain (map m_chain (map (λ z. z.0) from))))))))) k)) (map t_chain (map (λ z. z.0) from)) (map t_chain (map (λ c. c.chain v.seen) (map c_chain (map (λ z. z.0) from)))) (chains_typed_same from v w s (calls_of (tables_of (map marking.chain (map m_chain (map (λ z. z.0) from))))) [] (before (chains_marks v (calls_of (tables_of (map marking.chain (map m_chain (map (λ z. z.0) from))))) [] (map marking.chain (map m_chain (map (λ z. z.0) from)))) ([] ++ (map (column (inside v (tables_of (map marking.chain (map m_chain (map (λ z. z.0) from))))).seen) group ++ ((m_cond having.0).marks (inside v (tables_of (map marking.chain (map m_chain (map (λ z. z.0) from)))))))) (after (of_each marking.item (map m_item (map (λ z. z.0) items)) (inside v (tables_of (map marking.chain (map m_chain (map (λ z. z.0) from)))))) (chains_marks v (calls_of (tables_of (map marking.chain (map m_chain (map (λ z. z.0) from))))) [] (map marking.chain (map m_chain (map (λ z. z.0) from))) ++ ([] ++ (map (column (inside v (tables_of (map marking.chain (map m_chain (map (λ z. z.0) from))))).seen) group ++ ((m_cond having.0).marks (inside v (tables_of (map marking.chain (map m_chain (map (λ z. z.0) from))))))))) k))) None None tt (Some (t_cond having.0)) (Some (t_cond ((c_cond having.0).at (inside v (tables_of (map marking.chain (map m_chain (map (λ z. z.0) from))))).seen))) (having.1 (inside v (tables_of (map marking.chain (map m_chain (map (λ z. z.0) from))))) (inside w (tables_of (map marking.chain (map m_chain (map (λ z. z.0) from))))) (inside_like v w (tables_of (map marking.chain (map m_chain (map (λ z. z.0) from)))) s) (after (map (column (inside v (tables_of (map marking.chain (map m_chain (map (λ z. z.0) from))))).seen) group) ((m_cond having.0).marks (inside v (tables_of (map marking.chain (map m_chain (map (λ z. z.0) from)))))) (after ([]) (map (column (inside v (tables_of (map marking.chain (map m_chain (map (λ z. z.0) from))))).seen) group ++ ((m_cond having.0).marks (inside v (tables_of (map marking.chain (map m_chain (map (λ z. z.0) from))))))) (after (chains_marks v (calls_of (tables_of (map marking.chain (map m_chain (map (λ z. z.0) from))))) [] (map marking.chain (map m_chain (map (λ z. z.0) from)))) ([] ++ (map (column (inside v (tables_of (map marking.chain (map m_chain (map (λ z. z.0) from))))).seen) group ++ ((m_cond having.0).marks (inside v (tables_of (map marking.chain (map m_chain (map (λ z. z.0) from)))))))) (after (of_each marking.item (map m_item (map (λ z. z.0) items)) (inside v (tables_of (map marking.chain (map m_chain (map (λ z. z.0) from)))))) (chains_marks v (calls_of (tables_of (map marking.chain (map m_chain (map (λ z. z.0) from))))) [] (map marking.chain (map m_chain (map (λ z. z.0) from))) ++ ([] ++ (map (column (inside v (tables_of (map marking.chain (map m_chain (map (λ z. z.0) from))))).seen) group ++ ((m_cond having.0).marks (inside v (tables_of (map marking.chain (map m_chain (map (λ z. z.0) from))))))))) k))))) (tables_path (map (λ z. z.0) from)) (tables_path (map (λ c. c.chain v.seen) (map c_chain (map (λ z. z.0) from))) ∙ sym (forms_tables (map (λ z. z.0) from) v w s)))
+  query_good distinct items from (Some filter) group None = λ v w s h. let g : AllApart (enter (items_in v.seen (tables_of (map marking.chain (map m_chain (map (λ z. z.0) from))))) ∷ (of_each marking.item (map m_item (map (λ z. z.0) items)) (inside v (tables_of (map marking.chain (map m_chain (map (λ z. z.0) from))))) ++ (chains_marks v (calls_of (tables_of (map marking.chain (map m_chain (map (λ z. z.0) from))))) [] (map marking.chain (map m_chain (map (λ z. z.0) from))) ++ ((m_cond filter.0).marks (inside v (tables_of (map marking.chain (map m_chain (map (λ z. z.0) from))))) ++ (map (column (inside v (tables_of (map marking.chain (map m_chain (map (λ z. z.0) from))))).seen) group ++ ([])))))) = subst AllApart (ap (λ m. m.marks v) (query_roll marked mark_steps (record { distinct = distinct; items = (map (λ z. z.0) items); from = (map (λ z. z.0) from); filter = (Some filter.0); group = group; having = None }))) h in let k : AllApart (of_each marking.item (map m_item (map (λ z. z.0) items)) (inside v (tables_of (map marking.chain (map m_chain (map (λ z. z.0) from))))) ++ (chains_marks v (calls_of (tables_of (map marking.chain (map m_chain (map (λ z. z.0) from))))) [] (map marking.chain (map m_chain (map (λ z. z.0) from))) ++ ((m_cond filter.0).marks (inside v (tables_of (map marking.chain (map m_chain (map (λ z. z.0) from))))) ++ (map (column (inside v (tables_of (map marking.chain (map m_chain (map (λ z. z.0) from))))).seen) group ++ ([]))))) = g.1 in along (l.SameAnswers v w) _ (query_step C (record { distinct = distinct; items = (map t_item (map (λ z. z.0) items)); from = (map t_chain (map (λ z. z.0) from)); filter = (Some (t_cond filter.0)); group = group; having = None })) _ (query_step C (record { distinct = distinct; items = (map t_item (all_at (inside v (tables_of (map marking.chain (map m_chain (map (λ z. z.0) from))))).seen (map c_item (map (λ z. z.0) items)))); from = (map t_chain (map (λ c. c.chain v.seen) (map c_chain (map (λ z. z.0) from)))); filter = (Some (t_cond ((c_cond filter.0).at (inside v (tables_of (map marking.chain (map m_chain (map (λ z. z.0) from))))).seen))); group = (map (with_item C (inside v (tables_of (map marking.chain (map m_chain (map (λ z. z.0) from))))).seen) group); having = None })) (query_roll typing (steps C) (record { distinct = distinct; items = (map (λ z. z.0) items); from = (map (λ z. z.0) from); filter = (Some filter.0); group = group; having = None })) (ap (λ z. t_query (z.at v.seen)) (query_roll qualifying (qualify_steps C) (record { distinct = distinct; items = (map (λ z. z.0) items); from = (map (λ z. z.0) from); filter = (Some filter.0); group = group; having = None })) ∙ (λ i. t_query (query_in C v.seen (items_in v.seen (chains_tabs from i) ++ v.seen) (record { distinct = distinct; items = map c_item (map (λ z. z.0) items); from = map c_chain (map (λ z. z.0) from); filter = Some (c_cond filter.0); group = group; having = None }))) ∙ query_roll typing (steps C) (record { distinct = distinct; items = (all_at (inside v (tables_of (map marking.chain (map m_chain (map (λ z. z.0) from))))).seen (map c_item (map (λ z. z.0) items))); from = (map (λ c. c.chain v.seen) (map c_chain (map (λ z. z.0) from))); filter = (Some ((c_cond filter.0).at (inside v (tables_of (map marking.chain (map m_chain (map (λ z. z.0) from))))).seen)); group = map (with_item C (inside v (tables_of (map marking.chain (map m_chain (map (λ z. z.0) from))))).seen) group; having = None })) (query.query_same C v w s (tables_of (map marking.chain (map m_chain (map (λ z. z.0) from)))) (inside_like v w (tables_of (map marking.chain (map m_chain (map (λ z. z.0) from)))) s) distinct group (before (map (column (inside v (tables_of (map marking.chain (map m_chain (map (λ z. z.0) from))))).seen) group) ([]) (after ((m_cond filter.0).marks (inside v (tables_of (map marking.chain (map m_chain (map (λ z. z.0) from)))))) (map (column (inside v (tables_of (map marking.chain (map m_chain (map (λ z. z.0) from))))).seen) group ++ ([])) (after (chains_marks v (calls_of (tables_of (map marking.chain (map m_chain (map (λ z. z.0) from))))) [] (map marking.chain (map m_chain (map (λ z. z.0) from)))) ((m_cond filter.0).marks (inside v (tables_of (map marking.chain (map m_chain (map (λ z. z.0) from))))) ++ (map (column (inside v (tables_of (map marking.chain (map m_chain (map (λ z. z.0) from))))).seen) group ++ ([]))) (after (of_each marking.item (map m_item (map (λ z. z.0) items)) (inside v (tables_of (map marking.chain (map m_chain (map (λ z. z.0) from)))))) (chains_marks v (calls_of (tables_of (map marking.chain (map m_chain (map (λ z. z.0) from))))) [] (map marking.chain (map m_chain (map (λ z. z.0) from))) ++ ((m_cond filter.0).marks (inside v (tables_of (map marking.chain (map m_chain (map (λ z. z.0) from))))) ++ (map (column (inside v (tables_of (map marking.chain (map m_chain (map (λ z. z.0) from))))).seen) group ++ ([])))) k)))) (map t_item (map (λ z. z.0) items)) (map t_item (all_at (inside v (tables_of (map marking.chain (map m_chain (map (λ z. z.0) from))))).seen (map c_item (map (λ z. z.0) items)))) (each (λ v w. l.SameShows v w) c_item m_item t_item items (inside v (tables_of (map marking.chain (map m_chain (map (λ z. z.0) from))))) (inside w (tables_of (map marking.chain (map m_chain (map (λ z. z.0) from))))) (inside_like v w (tables_of (map marking.chain (map m_chain (map (λ z. z.0) from)))) s) (before (of_each marking.item (map m_item (map (λ z. z.0) items)) (inside v (tables_of (map marking.chain (map m_chain (map (λ z. z.0) from)))))) (chains_marks v (calls_of (tables_of (map marking.chain (map m_chain (map (λ z. z.0) from))))) [] (map marking.chain (map m_chain (map (λ z. z.0) from))) ++ ((m_cond filter.0).marks (inside v (tables_of (map marking.chain (map m_chain (map (λ z. z.0) from))))) ++ (map (column (inside v (tables_of (map marking.chain (map m_chain (map (λ z. z.0) from))))).seen) group ++ ([])))) k)) (map t_chain (map (λ z. z.0) from)) (map t_chain (map (λ c. c.chain v.seen) (map c_chain (map (λ z. z.0) from)))) (chains_typed_same from v w s (calls_of (tables_of (map marking.chain (map m_chain (map (λ z. z.0) from))))) [] (before (chains_marks v (calls_of (tables_of (map marking.chain (map m_chain (map (λ z. z.0) from))))) [] (map marking.chain (map m_chain (map (λ z. z.0) from)))) ((m_cond filter.0).marks (inside v (tables_of (map marking.chain (map m_chain (map (λ z. z.0) from))))) ++ (map (column (inside v (tables_of (map marking.chain (map m_chain (map (λ z. z.0) from))))).seen) group ++ ([]))) (after (of_each marking.item (map m_item (map (λ z. z.0) items)) (inside v (tables_of (map marking.chain (map m_chain (map (λ z. z.0) from)))))) (chains_marks v (calls_of (tables_of (map marking.chain (map m_chain (map (λ z. z.0) from))))) [] (map marking.chain (map m_chain (map (λ z. z.0) from))) ++ ((m_cond filter.0).marks (inside v (tables_of (map marking.chain (map m_chain (map (λ z. z.0) from))))) ++ (map (column (inside v (tables_of (map marking.chain (map m_chain (map (λ z. z.0) from))))).seen) group ++ ([])))) k))) (Some (t_cond filter.0)) (Some (t_cond ((c_cond filter.0).at (inside v (tables_of (map marking.chain (map m_chain (map (λ z. z.0) from))))).seen))) (filter.1 (inside v (tables_of (map marking.chain (map m_chain (map (λ z. z.0) from))))) (inside w (tables_of (map marking.chain (map m_chain (map (λ z. z.0) from))))) (inside_like v w (tables_of (map marking.chain (map m_chain (map (λ z. z.0) from)))) s) (before ((m_cond filter.0).marks (inside v (tables_of (map marking.chain (map m_chain (map (λ z. z.0) from)))))) (map (column (inside v (tables_of (map marking.chain (map m_chain (map (λ z. z.0) from))))).seen) group ++ ([])) (after (chains_marks v (calls_of (tables_of (map marking.chain (map m_chain (map (λ z. z.0) from))))) [] (map marking.chain (map m_chain (map (λ z. z.0) from)))) ((m_cond filter.0).marks (inside v (tables_of (map marking.chain (map m_chain (map (λ z. z.0) from))))) ++ (map (column (inside v (tables_of (map marking.chain (map m_chain (map (λ z. z.0) from))))).seen) group ++ ([]))) (after (of_each marking.item (map m_item (map (λ z. z.0) items)) (inside v (tables_of (map marking.chain (map m_chain (map (λ z. z.0) from)))))) (chains_marks v (calls_of (tables_of (map marking.chain (map m_chain (map (λ z. z.0) from))))) [] (map marking.chain (map m_chain (map (λ z. z.0) from))) ++ ((m_cond filter.0).marks (inside v (tables_of (map marking.chain (map m_chain (map (λ z. z.0) from))))) ++ (map (column (inside v (tables_of (map marking.chain (map m_chain (map (λ z. z.0) from))))).seen) group ++ ([])))) k)))) None None tt (tables_path (map (λ z. z.0) from)) (tables_path (map (λ c. c.chain v.seen) (map c_chain (map (λ z. z.0) from))) ∙ sym (forms_tables (map (λ z. z.0) from) v w s)))
+  query_good distinct items from (Some filter) group (Some having) = λ v w s h. let g : AllApart (enter (items_in v.seen (tables_of (map marking.chain (map m_chain (map (λ z. z.0) from))))) ∷ (of_each marking.item (map m_item (map (λ z. z.0) items)) (inside v (tables_of (map marking.chain (map m_chain (map (λ z. z.0) from))))) ++ (chains_marks v (calls_of (tables_of (map marking.chain (map m_chain (map (λ z. z.0) from))))) [] (map marking.chain (map m_chain (map (λ z. z.0) from))) ++ ((m_cond filter.0).marks (inside v (tables_of (map marking.chain (map m_chain (map (λ z. z.0) from))))) ++ (map (column (inside v (tables_of (map marking.chain (map m_chain (map (λ z. z.0) from))))).seen) group ++ ((m_cond having.0).marks (inside v (tables_of (map marking.chain (map m_chain (map (λ z. z.0) from))))))))))) = subst AllApart (ap (λ m. m.marks v) (query_roll marked mark_steps (record { distinct = distinct; items = (map (λ z. z.0) items); from = (map (λ z. z.0) from); filter = (Some filter.0); group = group; having = (Some having.0) }))) h in let k : AllApart (of_each marking.item (map m_item (map (λ z. z.0) items)) (inside v (tables_of (map marking.chain (map m_chain (map (λ z. z.0) from))))) ++ (chains_marks v (calls_of (tables_of (map marking.chain (map m_chain (map (λ z. z.0) from))))) [] (map marking.chain (map m_chain (map (λ z. z.0) from))) ++ ((m_cond filter.0).marks (inside v (tables_of (map marking.chain (map m_chain (map (λ z. z.0) from))))) ++ (map (column (inside v (tables_of (map marking.chain (map m_chain (map (λ z. z.0) from))))).seen) group ++ ((m_cond having.0).marks (inside v (tables_of (map marking.chain (map m_chain (map (λ z. z.0) from)))))))))) = g.1 in along (l.SameAnswers v w) _ (query_step C (record { distinct = distinct; items = (map t_item (map (λ z. z.0) items)); from = (map t_chain (map (λ z. z.0) from)); filter = (Some (t_cond filter.0)); group = group; having = (Some (t_cond having.0)) })) _ (query_step C (record { distinct = distinct; items = (map t_item (all_at (inside v (tables_of (map marking.chain (map m_chain (map (λ z. z.0) from))))).seen (map c_item (map (λ z. z.0) items)))); from = (map t_chain (map (λ c. c.chain v.seen) (map c_chain (map (λ z. z.0) from)))); filter = (Some (t_cond ((c_cond filter.0).at (inside v (tables_of (map marking.chain (map m_chain (map (λ z. z.0) from))))).seen))); group = (map (with_item C (inside v (tables_of (map marking.chain (map m_chain (map (λ z. z.0) from))))).seen) group); having = (Some (t_cond ((c_cond having.0).at (inside v (tables_of (map marking.chain (map m_chain (map (λ z. z.0) from))))).seen))) })) (query_roll typing (steps C) (record { distinct = distinct; items = (map (λ z. z.0) items); from = (map (λ z. z.0) from); filter = (Some filter.0); group = group; having = (Some having.0) })) (ap (λ z. t_query (z.at v.seen)) (query_roll qualifying (qualify_steps C) (record { distinct = distinct; items = (map (λ z. z.0) items); from = (map (λ z. z.0) from); filter = (Some filter.0); group = group; having = (Some having.0) })) ∙ (λ i. t_query (query_in C v.seen (items_in v.seen (chains_tabs from i) ++ v.seen) (record { distinct = distinct; items = map c_item (map (λ z. z.0) items); from = map c_chain (map (λ z. z.0) from); filter = Some (c_cond filter.0); group = group; having = Some (c_cond having.0) }))) ∙ query_roll typing (steps C) (record { distinct = distinct; items = (all_at (inside v (tables_of (map marking.chain (map m_chain (map (λ z. z.0) from))))).seen (map c_item (map (λ z. z.0) items))); from = (map (λ c. c.chain v.seen) (map c_chain (map (λ z. z.0) from))); filter = (Some ((c_cond filter.0).at (inside v (tables_of (map marking.chain (map m_chain (map (λ z. z.0) from))))).seen)); group = map (with_item C (inside v (tables_of (map marking.chain (map m_chain (map (λ z. z.0) from))))).seen) group; having = (Some ((c_cond having.0).at (inside v (tables_of (map marking.chain (map m_chain (map (λ z. z.0) from))))).seen)) })) (query.query_same C v w s (tables_of (map marking.chain (map m_chain (map (λ z. z.0) from)))) (inside_like v w (tables_of (map marking.chain (map m_chain (map (λ z. z.0) from)))) s) distinct group (before (map (column (inside v (tables_of (map marking.chain (map m_chain (map (λ z. z.0) from))))).seen) group) ((m_cond having.0).marks (inside v (tables_of (map marking.chain (map m_chain (map (λ z. z.0) from)))))) (after ((m_cond filter.0).marks (inside v (tables_of (map marking.chain (map m_chain (map (λ z. z.0) from)))))) (map (column (inside v (tables_of (map marking.chain (map m_chain (map (λ z. z.0) from))))).seen) group ++ ((m_cond having.0).marks (inside v (tables_of (map marking.chain (map m_chain (map (λ z. z.0) from))))))) (after (chains_marks v (calls_of (tables_of (map marking.chain (map m_chain (map (λ z. z.0) from))))) [] (map marking.chain (map m_chain (map (λ z. z.0) from)))) ((m_cond filter.0).marks (inside v (tables_of (map marking.chain (map m_chain (map (λ z. z.0) from))))) ++ (map (column (inside v (tables_of (map marking.chain (map m_chain (map (λ z. z.0) from))))).seen) group ++ ((m_cond having.0).marks (inside v (tables_of (map marking.chain (map m_chain (map (λ z. z.0) from)))))))) (after (of_each marking.item (map m_item (map (λ z. z.0) items)) (inside v (tables_of (map marking.chain (map m_chain (map (λ z. z.0) from)))))) (chains_marks v (calls_of (tables_of (map marking.chain (map m_chain (map (λ z. z.0) from))))) [] (map marking.chain (map m_chain (map (λ z. z.0) from))) ++ ((m_cond filter.0).marks (inside v (tables_of (map marking.chain (map m_chain (map (λ z. z.0) from))))) ++ (map (column (inside v (tables_of (map marking.chain (map m_chain (map (λ z. z.0) from))))).seen) group ++ ((m_cond having.0).marks (inside v (tables_of (map marking.chain (map m_chain (map (λ z. z.0) from))))))))) k)))) (map t_item (map (λ z. z.0) items)) (map t_item (all_at (inside v (tables_of (map marking.chain (map m_chain (map (λ z. z.0) from))))).seen (map c_item (map (λ z. z.0) items)))) (each (λ v w. l.SameShows v w) c_item m_item t_item items (inside v (tables_of (map marking.chain (map m_chain (map (λ z. z.0) from))))) (inside w (tables_of (map marking.chain (map m_chain (map (λ z. z.0) from))))) (inside_like v w (tables_of (map marking.chain (map m_chain (map (λ z. z.0) from)))) s) (before (of_each marking.item (map m_item (map (λ z. z.0) items)) (inside v (tables_of (map marking.chain (map m_chain (map (λ z. z.0) from)))))) (chains_marks v (calls_of (tables_of (map marking.chain (map m_chain (map (λ z. z.0) from))))) [] (map marking.chain (map m_chain (map (λ z. z.0) from))) ++ ((m_cond filter.0).marks (inside v (tables_of (map marking.chain (map m_chain (map (λ z. z.0) from))))) ++ (map (column (inside v (tables_of (map marking.chain (map m_chain (map (λ z. z.0) from))))).seen) group ++ ((m_cond having.0).marks (inside v (tables_of (map marking.chain (map m_chain (map (λ z. z.0) from))))))))) k)) (map t_chain (map (λ z. z.0) from)) (map t_chain (map (λ c. c.chain v.seen) (map c_chain (map (λ z. z.0) from)))) (chains_typed_same from v w s (calls_of (tables_of (map marking.chain (map m_chain (map (λ z. z.0) from))))) [] (before (chains_marks v (calls_of (tables_of (map marking.chain (map m_chain (map (λ z. z.0) from))))) [] (map marking.chain (map m_chain (map (λ z. z.0) from)))) ((m_cond filter.0).marks (inside v (tables_of (map marking.chain (map m_chain (map (λ z. z.0) from))))) ++ (map (column (inside v (tables_of (map marking.chain (map m_chain (map (λ z. z.0) from))))).seen) group ++ ((m_cond having.0).marks (inside v (tables_of (map marking.chain (map m_chain (map (λ z. z.0) from)))))))) (after (of_each marking.item (map m_item (map (λ z. z.0) items)) (inside v (tables_of (map marking.chain (map m_chain (map (λ z. z.0) from)))))) (chains_marks v (calls_of (tables_of (map marking.chain (map m_chain (map (λ z. z.0) from))))) [] (map marking.chain (map m_chain (map (λ z. z.0) from))) ++ ((m_cond filter.0).marks (inside v (tables_of (map marking.chain (map m_chain (map (λ z. z.0) from))))) ++ (map (column (inside v (tables_of (map marking.chain (map m_chain (map (λ z. z.0) from))))).seen) group ++ ((m_cond having.0).marks (inside v (tables_of (map marking.chain (map m_chain (map (λ z. z.0) from))))))))) k))) (Some (t_cond filter.0)) (Some (t_cond ((c_cond filter.0).at (inside v (tables_of (map marking.chain (map m_chain (map (λ z. z.0) from))))).seen))) (filter.1 (inside v (tables_of (map marking.chain (map m_chain (map (λ z. z.0) from))))) (inside w (tables_of (map marking.chain (map m_chain (map (λ z. z.0) from))))) (inside_like v w (tables_of (map marking.chain (map m_chain (map (λ z. z.0) from)))) s) (before ((m_cond filter.0).marks (inside v (tables_of (map marking.chain (map m_chain (map (λ z. z.0) from)))))) (map (column (inside v (tables_of (map marking.chain (map m_chain (map (λ z. z.0) from))))).seen) group ++ ((m_cond having.0).marks (inside v (tables_of (map marking.chain (map m_chain (map (λ z. z.0) from))))))) (after (chains_marks v (calls_of (tables_of (map marking.chain (map m_chain (map (λ z. z.0) from))))) [] (map marking.chain (map m_chain (map (λ z. z.0) from)))) ((m_cond filter.0).marks (inside v (tables_of (map marking.chain (map m_chain (map (λ z. z.0) from))))) ++ (map (column (inside v (tables_of (map marking.chain (map m_chain (map (λ z. z.0) from))))).seen) group ++ ((m_cond having.0).marks (inside v (tables_of (map marking.chain (map m_chain (map (λ z. z.0) from)))))))) (after (of_each marking.item (map m_item (map (λ z. z.0) items)) (inside v (tables_of (map marking.chain (map m_chain (map (λ z. z.0) from)))))) (chains_marks v (calls_of (tables_of (map marking.chain (map m_chain (map (λ z. z.0) from))))) [] (map marking.chain (map m_chain (map (λ z. z.0) from))) ++ ((m_cond filter.0).marks (inside v (tables_of (map marking.chain (map m_chain (map (λ z. z.0) from))))) ++ (map (column (inside v (tables_of (map marking.chain (map m_chain (map (λ z. z.0) from))))).seen) group ++ ((m_cond having.0).marks (inside v (tables_of (map marking.chain (map m_chain (map (λ z. z.0) from))))))))) k)))) (Some (t_cond having.0)) (Some (t_cond ((c_cond having.0).at (inside v (tables_of (map marking.chain (map m_chain (map (λ z. z.0) from))))).seen))) (having.1 (inside v (tables_of (map marking.chain (map m_chain (map (λ z. z.0) from))))) (inside w (tables_of (map marking.chain (map m_chain (map (λ z. z.0) from))))) (inside_like v w (tables_of (map marking.chain (map m_chain (map (λ z. z.0) from)))) s) (after (map (column (inside v (tables_of (map marking.chain (map m_chain (map (λ z. z.0) from))))).seen) group) ((m_cond having.0).marks (inside v (tables_of (map marking.chain (map m_chain (map (λ z. z.0) from)))))) (after ((m_cond filter.0).marks (inside v (tables_of (map marking.chain (map m_chain (map (λ z. z.0) from)))))) (map (column (inside v (tables_of (map marking.chain (map m_chain (map (λ z. z.0) from))))).seen) group ++ ((m_cond having.0).marks (inside v (tables_of (map marking.chain (map m_chain (map (λ z. z.0) from))))))) (after (chains_marks v (calls_of (tables_of (map marking.chain (map m_chain (map (λ z. z.0) from))))) [] (map marking.chain (map m_chain (map (λ z. z.0) from)))) ((m_cond filter.0).marks (inside v (tables_of (map marking.chain (map m_chain (map (λ z. z.0) from))))) ++ (map (column (inside v (tables_of (map marking.chain (map m_chain (map (λ z. z.0) from))))).seen) group ++ ((m_cond having.0).marks (inside v (tables_of (map marking.chain (map m_chain (map (λ z. z.0) from)))))))) (after (of_each marking.item (map m_item (map (λ z. z.0) items)) (inside v (tables_of (map marking.chain (map m_chain (map (λ z. z.0) from)))))) (chains_marks v (calls_of (tables_of (map marking.chain (map m_chain (map (λ z. z.0) from))))) [] (map marking.chain (map m_chain (map (λ z. z.0) from))) ++ ((m_cond filter.0).marks (inside v (tables_of (map marking.chain (map m_chain (map (λ z. z.0) from))))) ++ (map (column (inside v (tables_of (map marking.chain (map m_chain (map (λ z. z.0) from))))).seen) group ++ ((m_cond having.0).marks (inside v (tables_of (map marking.chain (map m_chain (map (λ z. z.0) from))))))))) k))))) (tables_path (map (λ z. z.0) from)) (tables_path (map (λ c. c.chain v.seen) (map c_chain (map (λ z. z.0) from))) ∙ sym (forms_tables (map (λ z. z.0) from) v w s)))
 
   signed_good : (y : Goods layers.Signed-F) → GoodSigned (roll-Signed (down_signed y))
   signed_good y = λ v w s h. let k : AllApart ((m_expr y.part.0).marks v) = subst AllApart (ap (λ m. m.marks v) (signed_roll marked mark_steps (record { minus = y.minus; part = y.part.0 }))) h in along (l.SameMeans v w) _ (signed_step (record { minus = y.minus; part = (t_expr y.part.0) })) _ (signed_step (record { minus = y.minus; part = (t_expr ((c_expr y.part.0).at v.seen)) })) (signed_roll typing (steps C) (record { minus = y.minus; part = y.part.0 })) (ap (λ z. t_signed (z.at v.seen)) (signed_roll qualifying (qualify_steps C) (record { minus = y.minus; part = y.part.0 })) ∙ signed_roll typing (steps C) (record { minus = y.minus; part = ((c_expr y.part.0).at v.seen) })) ((y.part.1 v w s k))

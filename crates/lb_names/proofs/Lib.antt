@@ -27,6 +27,7 @@ pub mod GrownStars
 pub mod GrownSteps
 pub mod GrownTypes
 pub mod GrownRules
+pub mod LikeSights
 pub mod FormMarks
 pub mod Apart
 pub mod ApartMarks
