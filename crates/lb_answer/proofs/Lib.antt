@@ -4,3 +4,5 @@ mod Fit
 mod Refusing
 pub mod Framed
 mod Left
+pub mod Apart
+pub mod Sessions

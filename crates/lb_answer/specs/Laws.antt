@@ -11,7 +11,7 @@ use Rattle.lb_names.specs.Mentions.{in_stmt}
 use Rattle.lb_rows.specs.Tables.{Tables, Version}
 use Rattle.lb_mean.specs.Answer.{Checks}
 use Rattle.lb_mean.specs.Frame.{Agrees}
-use Rattle.lb_mean.specs.Laws.{SameMention}
+use Rattle.lb_mean.specs.Laws.{SameMention, SameSession, SameHolding}
 use Rattle.lb_answer.specs.Answer.{answer}
 use Rattle.lb_answer.specs.Basis.{Basis}
 use Rattle.lb_answer.specs.Candidates.{Marked, candidates, taken_rows, other_rows}
@@ -82,3 +82,9 @@ StatementFrame = (checks : Checks) (C : Cat) (c : Cred) (T U : Tables) (day : �
 abbrev pub StatementsAcross : Type 0
 StatementsAcross = (checks : Checks) (C D : Cat) (c : Cred) (T U : Tables) (day : ℤ) (s : Stmt) → Agrees (SameMention C D T U) (in_stmt s)
     → checks C.tables C.policies s ≡ checks D.tables D.policies s → answer checks C c T day s ≡ answer checks D c U day s
+
+-- Two sessions with the same user, groups, roles, SECADM authority and privileges, which hold the same labels and exemptions of each
+-- policy that a statement mentions and that its tables mention, have one answer to it, and leave the same rows.
+abbrev pub SessionsAlike : Type 0
+SessionsAlike = (checks : Checks) (C : Cat) (c d : Cred) (T : Tables) (day : ℤ) (s : Stmt) → SameSession c d → Agrees (SameHolding C c d) (in_stmt s)
+    → answer checks C c T day s ≡ answer checks C d T day s

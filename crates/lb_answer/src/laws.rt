@@ -6,7 +6,7 @@ ghost use Rattle.lb_cat.specs.Catalog.{Table, Policy};
 ghost use Rattle.lb_answer.specs.Basis.{Basis};
 ghost use Rattle.lb_answer.specs.Candidates.{Marked, other_rows};
 ghost use Rattle.lb_answer.specs.Keys.{is_doubled, keys_of};
-ghost use Rattle.lb_answer.specs.Laws.{AreKept, AreRows, HasTwo, OthersStay, Fits, WroteExactly, StatementFrame, StatementsAcross};
+ghost use Rattle.lb_answer.specs.Laws.{AreKept, AreRows, HasTwo, OthersStay, Fits, WroteExactly, StatementFrame, StatementsAcross, SessionsAlike};
 
 /// The candidates of UPDATE and DELETE are the rows that WHERE keeps of the visible ones, and where one of these tests faults,
 /// its first fault; and each row of the table has its mark.
@@ -50,4 +50,10 @@ pub fn statements_have_a_frame()
 /// where names and types are refused alike.
 pub fn catalogues_answer_statements_alike()
     ensures { StatementsAcross }
+{}
+
+/// Two sessions with the same user, groups, roles, SECADM authority and privileges, which hold the same of the policies that a query or
+/// a write mentions and that its tables mention, have one answer to it, and leave the same rows.
+pub fn sessions_answer_statements_alike()
+    ensures { SessionsAlike }
 {}

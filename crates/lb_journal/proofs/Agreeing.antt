@@ -15,7 +15,7 @@ use Rattle.lb_alter.proofs.SoundUsers.{all_found}
 use Rattle.lb_alter.proofs.Steady.{all_front, all_after, tables_same, policies_same}
 use Rattle.lb_journal.specs.Rules.{fields_of, fault_in, named_in}
 
-find_passes : {A : Type 0} (test : A → Bool) (xs : List A) (r : A) → find test xs ≡ Some r → test r ≡ true
+pub find_passes : {A : Type 0} (test : A → Bool) (xs : List A) (r : A) → find test xs ≡ Some r → test r ≡ true
 find_passes test [] r e = absurd cc
 find_passes test (x ∷ xs) r e =
     elim (test x) as (λ b. test x ≡ b → cond b (Some x) (find test xs) ≡ Some r → test r ≡ true) [

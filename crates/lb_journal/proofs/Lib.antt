@@ -2,9 +2,14 @@ pub mod One
 pub mod Roots
 pub mod Stamps
 pub mod There
+pub mod Touched
 pub mod Lasting
 pub mod Writes
 pub mod Agreeing
 pub mod Answering
+pub mod Facts
 pub mod Steady
 pub mod Wider
+pub mod Mentioned
+pub mod Again
+pub mod Qualifies

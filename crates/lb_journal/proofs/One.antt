@@ -6,7 +6,7 @@ use Rattle.lb_cat.specs.declared.entry.Entry.TheVariants as entries
 use Rattle.lb_cat.specs.declared.reply.Reply.{Reply}
 use Rattle.lb_journal.specs.State.{State, first, after, step}
 use Rattle.lb_journal.specs.Journal.{Speaks}
-use Rattle.lb_journal.specs.Replay.{Steps, Replies, Runs, Replay, Rep}
+use Rattle.lb_journal.specs.Replay.{Steps, Replies, Runs}
 use Rattle.lb_journal.specs.Laws.{TextsAreTold, HasOneReplay, HasOneReply}
 
 speaks_one : TextsAreTold → (text : List ℕ) (s t : Stmt) → Speaks text s → Speaks text t → s ≡ t

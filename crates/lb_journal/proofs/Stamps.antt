@@ -42,7 +42,7 @@ same_then (keys.Component n) S T U h i = (i.0 ∙ h.0, tt)
 same_then (keys.User n) S T U h i = (i.0 ∙ h.0, tt)
 
 -- what is there stays there
-there_stays : (k : Key) (S T : State) → SameAt k S T → is_there T.cat T.tables k ≡ is_there S.cat S.tables k
+pub there_stays : (k : Key) (S T : State) → SameAt k S T → is_there T.cat T.tables k ≡ is_there S.cat S.tables k
 there_stays (keys.Table n) S T h = ap is_some h.0
 there_stays (keys.Rows n) S T h = ap is_some h.1
 there_stays (keys.Policy n) S T h = ap is_some h.0
@@ -73,7 +73,7 @@ step_stays S user groups day (stmts.Update s) k h = answered_stays S.cat S.table
 step_stays S user groups day (stmts.Delete s) k h = answered_stays S.cat S.tables (answered_to S.cat (cred S.cat user groups) S.tables day (stmts.Delete s)) k h
 
 -- What an entry does to a key: it touches it, and then the key is new or gone; or it leaves its record and rows, and its stamp where it is there.
-By : ℕ → Key → State → State → Type 0
+unfoldable pub By : ℕ → Key → State → State → Type 0
 By at k S T =
     ((is_there T.cat T.tables k ≡ true) × (T.stamp k ≡ at + 1))
     ⊎ ((is_there T.cat T.tables k ≡ false) × (T.stamp k ≡ 0))
@@ -89,7 +89,7 @@ after_by at S d k stays = go (is_there d.cat d.tables k) (has_key k d.touched) r
     go true false e f = inr (inr (stays f, ap (λ (b : Bool). stamp_after b (has_key k d.touched) at (S.stamp k)) e ∙ ap (λ (b : Bool). stamp_after true b at (S.stamp k)) f))
     go false touched e f = inr (inl (e, ap (λ (b : Bool). stamp_after b (has_key k d.touched) at (S.stamp k)) e))
 
-entry_by : (at : ℕ) (S : State) (e : Entry) (T : State) (k : Key) → Steps at S e T → By at k S T
+pub entry_by : (at : ℕ) (S : State) (e : Entry) (T : State) (k : Key) → Steps at S e T → By at k S T
 unfolding By
 entry_by at S (entries.Open user groups) T k h =
     subst (λ (U : State). By at k S U) (sym h) (inr (inr (same_self k S.cat S.tables, refl)))

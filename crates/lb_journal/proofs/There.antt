@@ -1,15 +1,14 @@
 -- A well-made journal leaves a state, and has a reply at the place of each statement.
-use Rattle.std.proofs.Common.{◌≡◌, ℕ, zero, suc, ◌+◌, ◌<◌, ◌≤◌, List, [], ◌∷◌, ◌++◌, length, take, Option, Some, None, refl, sym, ap, subst, ◌∙◌, append_assoc, add-zero, zero-add, arith}
+use Rattle.std.proofs.Common.{◌≡◌, ℕ, zero, suc, ◌+◌, List, [], ◌∷◌, ◌++◌, length, take, Some, refl, sym, subst, append_assoc, add-zero, arith}
 use Rattle.std.specs.Prelude.{slice_get}
 use Rattle.std.proofs.lemmas.List.{append-nil}
-use Rattle.lb_stmt.specs.declared.write.Stmt.{Stmt}
 use Rattle.lb_cat.specs.declared.entry.Said.{Said}
 use Rattle.lb_cat.specs.declared.entry.Entry.{Entry}
 use Rattle.lb_cat.specs.declared.entry.Entry.TheVariants as entries
 use Rattle.lb_cat.specs.declared.reply.Reply.{Reply}
 use Rattle.lb_journal.specs.State.{State, first, after, step}
-use Rattle.lb_journal.specs.Journal.{Speaks, Follows, FollowsSaid, MadeFrom, IsMade}
-use Rattle.lb_journal.specs.Replay.{Steps, Replies, Runs, Replay, Rep}
+use Rattle.lb_journal.specs.Journal.{Follows, FollowsSaid, MadeFrom, IsMade}
+use Rattle.lb_journal.specs.Replay.{Steps, Runs, Replay, Rep}
 
 -- one entry more
 pub runs_more : (at : ℕ) (S : State) (J : List Entry) (T : State) (e : Entry) (U : State) → Runs at S J T → Steps (at + length J) T e U → Runs at S (J ++ e ∷ []) U

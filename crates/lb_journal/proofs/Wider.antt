@@ -18,7 +18,7 @@ use Rattle.lb_alter.specs.ChangeTable.{is_label_type, is_label_column}
 use Rattle.lb_alter.specs.Steady.{IsSameColumn, IsWider}
 use Rattle.lb_alter.proofs.SoundTables.{put_case}
 use Rattle.lb_journal.specs.Rules.{kind_of_type, field_of, fields_of, named_in, refusal_for, stored_rules}
-use Rattle.lb_journal.specs.Steadiness.{OutlastsColumns, OutlastsColumnsInMask}
+use Rattle.lb_journal.proofs.Facts.{OutlastsColumns, OutlastsColumnsInMask}
 use Rattle.lb_journal.proofs.Steady.{none_told}
 
 -- ---- columns

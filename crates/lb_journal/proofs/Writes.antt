@@ -52,7 +52,7 @@ module _ (C D : Cat) (n : List ℕ) (same : policy_named D n ≡ policy_named C 
         | false ↦ λ _. same_found hs
       ] refl
 
-  same_held : (user : List ℕ) (groups : List (List ℕ)) → user_named D user ≡ user_named C user → held_of (cred D user groups) n ≡ held_of (cred C user groups) n
+  pub same_held : (user : List ℕ) (groups : List (List ℕ)) → user_named D user ≡ user_named C user → held_of (cred D user groups) n ≡ held_of (cred C user groups) n
   same_held user groups e =
       ap (λ (o : Option User). held_of (cred_of D user groups (unwrap_or o (no_user user))) n) e
       ∙ ap (λ (o : Option CredLabel). unwrap_or o (no_label n)) (same_found (unwrap_or (user_named C user) (no_user user)).held)

@@ -1,5 +1,5 @@
 -- What an engine promises: a plan that it makes for a statement answers as the definitions do, wherever session and tables fit.
-use Rattle.std.specs.Prelude.{ℕ, ℤ, ◌≡◌, Option, Some, None}
+use Rattle.std.specs.Prelude.{ℤ, ◌≡◌}
 use Rattle.lb_base.specs.Days.{IsDay}
 use Rattle.lb_stmt.specs.declared.write.Stmt.{Stmt}
 use Rattle.lb_rows.specs.Tables.{Tables}

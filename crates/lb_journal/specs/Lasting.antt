@@ -56,3 +56,11 @@ pub record WriteStays (S T : State) (s : Stmt) (user : List ℕ) : Type 0 where
 abbrev pub WriteDependenciesLast : Type 0
 WriteDependenciesLast =
     (J K : List Entry) (S T : State) (s : Stmt) (user : List ℕ) → Replay J S → Runs (length J) S K T → SameStamps (write_deps S.cat s user) S T → WriteStays S T s user
+
+-- A write of a user with these groups, on that day, has one answer before and after, and leaves the same rows of its target, if no stamp of what
+-- its commit depends on has moved, in sound catalogues. So it is of a query.
+abbrev pub WritesAgain : Type 0
+WritesAgain =
+    (J K : List Entry) (S T : State) (s : Stmt) (user : List ℕ) (groups : List (List ℕ)) (day : ℤ)
+    → Replay J S → Runs (length J) S K T → IsSound stored_rules S.cat → IsSound stored_rules T.cat → SameStamps (write_deps S.cat s user) S T
+    → answered_to S.cat (cred S.cat user groups) S.tables day s ≡ answered_to T.cat (cred T.cat user groups) T.tables day s

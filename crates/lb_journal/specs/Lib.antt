@@ -6,6 +6,6 @@ pub mod Roots
 pub mod Sections
 pub mod State
 pub mod Told
+pub mod Touched
 pub mod Rules
 pub mod Lasting
-pub mod Steadiness

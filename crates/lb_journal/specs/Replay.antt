@@ -1,7 +1,6 @@
 -- What a journal leaves, and the reply at a place of it.
-use Rattle.std.specs.Prelude.{ℕ, ◌≡◌, ◌+◌, List, [], ◌∷◌, take, slice_get, Option, None, Some}
+use Rattle.std.specs.Prelude.{ℕ, ◌≡◌, ◌+◌, List, [], ◌∷◌, take, slice_get, Some}
 use Rattle.lb_stmt.specs.declared.write.Stmt.{Stmt}
-use Rattle.lb_cat.specs.declared.entry.Said.{Said}
 use Rattle.lb_cat.specs.declared.entry.Entry.{Entry}
 use Rattle.lb_cat.specs.declared.entry.Entry.TheVariants as entries
 use Rattle.lb_cat.specs.declared.reply.Reply.{Reply}

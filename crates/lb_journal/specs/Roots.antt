@@ -1,6 +1,5 @@
 -- The root of a place: of a statement the place of its session's Open, of an Open the place itself.
-use Rattle.std.specs.Prelude.{ℕ, zero, suc, ◌+◌, List, [], ◌∷◌, take, slice_get, Option, Some, None}
-use Rattle.lb_cat.specs.declared.entry.Said.{Said}
+use Rattle.std.specs.Prelude.{ℕ, zero, suc, ◌+◌, List, [], ◌∷◌, take, slice_get, Option, Some}
 use Rattle.lb_cat.specs.declared.entry.Entry.{Entry}
 use Rattle.lb_cat.specs.declared.entry.Entry.TheVariants as entries
 

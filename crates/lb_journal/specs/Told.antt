@@ -1,5 +1,5 @@
 -- What a session is told: one answer for each of its statements, each right by the journal.
-use Rattle.std.specs.Prelude.{ℕ, ℤ, ◌≡◌, ◌⊎◌, ◌+◌, ◌≤◌, Bool, true, false, List, [], ◌∷◌, take, length, slice_get, Option, None, Some}
+use Rattle.std.specs.Prelude.{ℕ, ℤ, ◌≡◌, ◌⊎◌, ◌+◌, ◌≤◌, Bool, true, false, List, [], ◌∷◌, take, length, slice_get, None, Some}
 use Rattle.lb_stmt.specs.declared.write.Stmt.{Stmt}
 use Rattle.lb_stmt.specs.declared.write.Stmt.TheVariants as stmts
 use Rattle.lb_tok.specs.Canonical.{canonical}
@@ -7,7 +7,6 @@ use Rattle.lb_tok.specs.Syntax.{IsRepeatable, IsSyntaxAt}
 use Rattle.lb_cat.specs.Catalog.{Cat}
 use Rattle.lb_cat.specs.declared.refusal.Refusal.TheVariants as refusals
 use Rattle.lb_cat.specs.declared.reply.Reply.TheVariants as replies
-use Rattle.lb_cat.specs.declared.entry.Said.{Said}
 use Rattle.lb_cat.specs.declared.entry.Entry.{Entry}
 use Rattle.lb_cat.specs.declared.entry.Entry.TheVariants as entries
 use Rattle.lb_cat.specs.declared.answer.Answer.{Answer}

@@ -4,14 +4,15 @@ ghost use Rattle.lb_cat.specs.declared.entry.Entry.{Entry};
 ghost use Rattle.lb_cat.specs.declared.entry.Entry.TheVariants as entries;
 ghost use Rattle.lb_cat.specs.declared.entry.Said.{Said};
 ghost use Rattle.lb_cat.specs.declared.reply.Reply.{Reply};
+ghost use Rattle.lb_alter.specs.Steady.{IsSteady};
 ghost use Rattle.lb_journal.specs.Journal.{IsMade};
 ghost use Rattle.lb_journal.specs.State.{State};
 ghost use Rattle.lb_journal.specs.Replay.{Replay, Rep};
 ghost use Rattle.lb_journal.specs.Roots.{root};
+ghost use Rattle.lb_journal.specs.Touched.{StampsAreLastTouches, HasOneStamp};
 ghost use Rattle.lb_journal.specs.Engine.{RightGives};
-ghost use Rattle.lb_journal.specs.Lasting.{AnswerStays, RightLasts, WriteDependenciesLast};
+ghost use Rattle.lb_journal.specs.Lasting.{AnswerStays, RightLasts, WriteDependenciesLast, WritesAgain};
 ghost use Rattle.lb_journal.specs.Rules.{stored_rules};
-ghost use Rattle.lb_journal.specs.Steadiness.{KeepsMaskMentions, KeepsMentions, MaskMentionsStand, MentionsStand, OutlastsColumns, OutlastsColumnsInMask, OutlastsLabels, OutlastsLabelsInMask, ReadsNoMore, ReadsNoMoreInMask};
 ghost use Rattle.lb_journal.specs.Laws.{AbsentIsZero, HasOneReplay, HasOneReply, SameStampSameRecord, StampsTell};
 
 use crate::engine::Engine;
@@ -46,6 +47,13 @@ pub fn stamps_tell()
     ensures same { SameStampSameRecord }
 {}
 
+/// A stamp is one more than the last place that touches its key, where the key is there; and 0 where it isn't there or no place
+/// touches it. No other number is.
+pub fn stamps_are_last_touches()
+    ensures last { StampsAreLastTouches }
+    ensures one { HasOneStamp }
+{}
+
 /// Two sound catalogues with the same records under what a statement depends on answer it alike, for each session, tables and day.
 pub fn answers_stay()
     ensures { AnswerStays }
@@ -64,18 +72,16 @@ pub fn write_dependencies_last()
     ensures { WriteDependenciesLast }
 {}
 
+/// Where no stamp of what the commit of a write depends on moves, the write of the same user with the same groups, on the same day,
+/// is answered as before, and leaves the same rows.
+pub fn written_again()
+    ensures { WritesAgain }
+{}
+
 /// The rules for stored conditions: they read no more than what a condition depends on; the qualified form mentions what the
 /// condition mentions; what is mentioned is there; other labels of a policy break no condition whose labels stay, and more columns
-/// of a table no condition that is qualified.
+/// of a table no condition that is qualified; and the qualified form keeps the rules that the condition keeps. These are all that
+/// soundness asks of them.
 pub fn stored_rules_are_steady()
-    ensures reads { ReadsNoMore stored_rules }
-    ensures reads_mask { ReadsNoMoreInMask stored_rules }
-    ensures mentions { KeepsMentions stored_rules }
-    ensures mask_mentions { KeepsMaskMentions stored_rules }
-    ensures stands { MentionsStand stored_rules }
-    ensures stands_mask { MaskMentionsStand stored_rules }
-    ensures relabels { OutlastsLabels stored_rules }
-    ensures relabels_mask { OutlastsLabelsInMask stored_rules }
-    ensures widens { OutlastsColumns stored_rules }
-    ensures widens_mask { OutlastsColumnsInMask stored_rules }
+    ensures { IsSteady stored_rules }
 {}

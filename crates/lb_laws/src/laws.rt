@@ -6,6 +6,7 @@ ghost use Rattle.lb_model.specs.Step.{State};
 ghost use Rattle.lb_model.specs.Replay.{Replay, Rep};
 ghost use Rattle.lb_model.specs.Sections.{Section, SectionResult, Journaled, out};
 ghost use Rattle.lb_laws.specs.Outside.{SameOutside};
+ghost use Rattle.lb_laws.specs.Whole.{OneReply, OneState};
 
 /// A journal leaves at most one state.
 pub fn journal_has_one_replay()
@@ -24,3 +25,11 @@ pub fn script_has_one_journal()
     ensures results { (limit : ℕ) (sections : List Section) (os ps : List SectionResult) → Journaled limit sections os → Journaled limit sections ps → SameOutside os ps → os ≡ ps }
     ensures output { (limit : ℕ) (sections : List Section) (os ps : List SectionResult) → Journaled limit sections os → Journaled limit sections ps → SameOutside os ps → out limit sections os ≡ out limit sections ps }
 {}
+
+/// A journal of the whole language leaves at most one state, and a place of it has at most one reply.
+pub fn whole_journal_has_one_replay()
+    ensures state { OneState }
+    ensures reply { OneReply }
+{
+    lb_journal::a_journal_has_one_replay();
+}

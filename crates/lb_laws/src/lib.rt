@@ -3,4 +3,7 @@
 
 mod laws;
 
-pub use laws::{journal_has_one_replay, place_has_one_reply, script_has_one_journal};
+pub use laws::{
+    journal_has_one_replay, place_has_one_reply, script_has_one_journal,
+    whole_journal_has_one_replay,
+};

@@ -8,3 +8,6 @@ pub mod Meant
 pub mod Seen
 pub mod Across
 pub mod Stable
+pub mod Apart
+pub mod Sessions
+pub mod Holding

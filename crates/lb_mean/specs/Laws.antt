@@ -9,7 +9,8 @@ use Rattle.lb_cat.specs.declared.catalog.ColumnRec.{ColumnRec}
 use Rattle.lb_cat.specs.declared.catalog.PermissionRec.{PermissionRec}
 use Rattle.lb_cat.specs.declared.catalog.MaskRec.{MaskRec}
 use Rattle.lb_cat.specs.declared.cred.Cred.{Cred}
-use Rattle.lb_cat.specs.Catalog.{Cat, Table, table_named, policy_named}
+use Rattle.lb_cat.specs.Catalog.{Cat, Table, Policy, table_named, policy_named}
+use Rattle.lb_cat.specs.Credentials.{held_of}
 use Rattle.lb_names.specs.Mentions.{Mention, Mentions, table, policy, label, in_expr, in_cond, in_select}
 use Rattle.lb_rows.specs.Tables.{Tables, rows_of}
 use Rattle.lb_mean.specs.Visible.{policy_of_type, guarded}
@@ -101,3 +102,40 @@ SeesSame C c day T U (label p l) = Unit {0}
 abbrev pub TwoWorlds : Type 0
 TwoWorlds = (checks : Checks) (C : Cat) (c : Cred) (T U : Tables) (day : ℤ) (s : Select) → Agrees (SeesSame C c day T U) (in_select s)
     → query_answer checks C c T day s ≡ query_answer checks C c U day s
+
+-- ---- two sessions
+
+-- the sessions have the same user, groups, roles, SECADM authority and privileges; of labels and exemptions it says nothing
+pub record SameSession (c d : Cred) : Type 0 where
+  pub user : c.user ≡ d.user
+  pub groups : c.groups ≡ d.groups
+  pub roles : c.roles ≡ d.roles
+  pub secadm : c.secadm ≡ d.secadm
+  pub privileges : c.privileges ≡ d.privileges
+
+-- they hold the same labels and exemptions of a policy, if it is there
+abbrev pub HoldsSame : Cred → Cred → Option Policy → Type 0
+HoldsSame c d None = Unit {0}
+HoldsSame c d (Some p) = held_of c p.name ≡ held_of d p.name
+
+-- the same of a policy that is mentioned
+abbrev pub SameHeld : Cat → Cred → Cred → Mention → Type 0
+SameHeld C c d (table n) = Unit {0}
+SameHeld C c d (policy p) = HoldsSame c d (policy_named C p)
+SameHeld C c d (label p l) = HoldsSame c d (policy_named C p)
+
+-- the same of all policies that a table mentions, if it is there
+abbrev pub SameHeldIn : Cat → Cred → Cred → Option Table → Type 0
+SameHeldIn C c d None = Unit {0}
+SameHeldIn C c d (Some t) = Agrees (SameHeld C c d) (mentioned_by t)
+
+-- the same of the policies that a statement mentions, and of those that its tables mention
+abbrev pub SameHolding : Cat → Cred → Cred → Mention → Type 0
+SameHolding C c d (table n) = SameHeldIn C c d (table_named C n)
+SameHolding C c d (policy p) = SameHeld C c d (policy p)
+SameHolding C c d (label p l) = SameHeld C c d (label p l)
+
+-- two such sessions have one answer to a query, whatever they hold of other policies
+abbrev pub SessionsFrame : Type 0
+SessionsFrame = (checks : Checks) (C : Cat) (c d : Cred) (T : Tables) (day : ℤ) (s : Select) → SameSession c d → Agrees (SameHolding C c d) (in_select s)
+    → query_answer checks C c T day s ≡ query_answer checks C d T day s

@@ -3,7 +3,7 @@ ghost use Rattle.std.specs.Prelude.{◌≡◌, Bool, List};
 ghost use Rattle.std.specs.Cmp.{IsStrictWeakOrder};
 ghost use Rattle.std.specs.List.Sorted.{IsSortedBy, IsStableBy};
 ghost use Rattle.lb_mean.specs.Frame.{ExprFrame, CondFrame, QueryFrame};
-ghost use Rattle.lb_mean.specs.Laws.{RowsFrame, AnswerFrame, RefusalFrame, AcrossFrame, TwoWorlds};
+ghost use Rattle.lb_mean.specs.Laws.{RowsFrame, AnswerFrame, RefusalFrame, AcrossFrame, TwoWorlds, SessionsFrame};
 ghost use Rattle.lb_mean.specs.Ordered.{sorted};
 
 /// The meaning of an expression, a condition or a query depends on the session, the day, and what is seen of the tables and
@@ -26,6 +26,12 @@ pub fn queries_have_a_frame()
 pub fn catalogues_answer_queries_alike()
     ensures refusals { RefusalFrame }
     ensures answer { AcrossFrame }
+{}
+
+/// Two sessions with the same user, groups, roles, SECADM authority and privileges, which hold the same of the policies that a query
+/// mentions and that its tables mention, have one answer to it.
+pub fn sessions_answer_queries_alike()
+    ensures { SessionsFrame }
 {}
 
 /// A query has the same answer in two worlds of which the session sees the same, and whose permissions and masks read the same.

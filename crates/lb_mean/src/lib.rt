@@ -4,5 +4,6 @@
 mod laws;
 
 pub use laws::{
-    meaning_has_a_frame, queries_have_a_frame, stable_sort_is_sorted, two_worlds_answer_alike,
+    catalogues_answer_queries_alike, meaning_has_a_frame, queries_have_a_frame,
+    sessions_answer_queries_alike, stable_sort_is_sorted, two_worlds_answer_alike,
 };

@@ -1,5 +1,5 @@
 -- The marks of a tree's qualified form are those of the tree with each column qualified. tools/names-inductions writes this file.
-use Rattle.std.proofs.Common.{ℕ, suc, ◌≡◌, refl, ap, sym, subst, ◌∙◌, List, [], ◌∷◌, ◌++◌, Bool, Option, Some, None, map}
+use Rattle.std.proofs.Common.{◌≡◌, refl, ap, sym, subst, ◌∙◌, List, [], ◌∷◌, ◌++◌, Bool, Option, Some, None, map}
 use Rattle.std.specs.List.{flat_map}
 use Rattle.lb_tree.specs.declared.query.Cond.{Cond}
 use Rattle.lb_tree.specs.declared.query.Expr.{Expr}
@@ -16,15 +16,16 @@ use Rattle.lb_tree.specs.declared.query.Column.{Column}
 use Rattle.lb_tree.specs.declared.query.Tab.{Tab}
 use Rattle.lb_tree.specs.declared.query.Cond.TheOpen as layers
 use Rattle.lb_tree.specs.declared.query.Cond.TheViews.{roll-Cond, roll-Expr, roll-Item, roll-Join, roll-Arm, roll-Chain, roll-Choice, roll-Query, roll-Signed}
-use Rattle.lb_tree.specs.declared.query.Cond.TheFolds.{map-Cond, map-Expr, map-Item, map-Join, map-Arm, map-Chain, map-Choice, map-Query, map-Signed, ind-Cond, ind-Expr}
+use Rattle.lb_tree.specs.declared.query.Cond.TheFolds.{map-Cond, map-Expr, map-Item, map-Join, map-Arm, map-Chain, map-Choice, map-Query, map-Signed, ind-Cond, ind-Expr, ind-Chain}
 use Rattle.lb_tree.specs.Folds.{Written, cond_of, expr_of, item_of, join_of, arm_of, chain_of, choice_of, query_of, signed_of}
 use Rattle.lb_tree.proofs.Opens.{cond_roll, expr_roll, item_roll, join_roll, arm_roll, chain_roll, choice_roll, query_roll, signed_roll}
 use Rattle.lb_names.specs.declared.place.Seen.{Seen}
-use Rattle.lb_names.specs.Sights.{Name, correlation, calls_of, level_in, at_level, items_in, Sight, inside, inside_on}
+use Rattle.lb_names.specs.Sights.{Name, correlation, calls_of, items_in, Sight, inside, inside_on}
 use Rattle.lb_names.specs.Marks.{Mark, enter, item, column, star, call, Marks, Marked, JoinMarks, ChainMarks, marked, marking, mark_steps, of_each, tables_of, tables_of_chain, joins_marks, chains_marks, atom_marks}
 use Rattle.lb_names.specs.Scopes.{Catalogue}
 use Rattle.lb_names.specs.Passes.{call_refusal_of, text_refusal_of}
 use Rattle.lb_names.specs.Qualify.{with_item, atom_in, In, JoinIn, ChainIn, qualifying, qualify_steps, all_at, joins_in, query_in}
+use Rattle.lb_names.proofs.LikeSights.{SeenLikes, SightLike, inside_like, inside_on_like}
 use Rattle.lb_names.proofs.Mentioned.{m_cond, m_expr, m_item, m_join, m_arm, m_chain, m_choice, m_query, m_signed}
 
 module _ (C : Catalogue) where
@@ -55,28 +56,13 @@ module _ (C : Catalogue) where
   abbrev c_signed : Signed → In Signed
   c_signed = signed_of qualifying (qualify_steps C)
 
-  -- items of the same level, table and correlation name
-  abbrev pub SeenLike : Seen → Seen → Type 0
-  SeenLike s t = (s.level ≡ t.level) × ((s.tab.table ≡ t.tab.table) × (correlation s.tab ≡ correlation t.tab))
-
-  abbrev pub SeenLikes : List Seen → List Seen → Type 0
-  SeenLikes [] [] = Unit {0}
-  SeenLikes (s ∷ seen) (t ∷ others) = SeenLike s t × SeenLikes seen others
-  SeenLikes _ _ = ⊥
-
-  abbrev pub SightLike : Sight → Sight → Type 0
-  SightLike v w = (v.level ≡ w.level) × (SeenLikes v.own w.own × (SeenLikes v.seen w.seen × (v.around ≡ w.around)))
-
-  abbrev pub CallLike : Atom → Atom → Type 0
-  CallLike a b = (call_refusal_of C a ≡ call_refusal_of C b) × (text_refusal_of C a ≡ text_refusal_of C b)
-
   -- the same mark, a column being qualified
   abbrev pub MarkLike : Mark → Mark → Type 0
   MarkLike (enter items) (enter others) = Unit {0}
   MarkLike (item before around tab) (item names outer other) = (before ≡ names) × ((around ≡ outer) × (tab ≡ other))
   MarkLike (column seen c) (column others d) = SeenLikes seen others × (d ≡ with_item C seen c)
   MarkLike (star items x) (star others y) = SeenLikes items others × (x ≡ y)
-  MarkLike (call a) (call b) = CallLike a b
+  MarkLike (call a) (call b) = (call_refusal_of C a ≡ call_refusal_of C b) × (text_refusal_of C a ≡ text_refusal_of C b)
   MarkLike _ _ = ⊥
 
   abbrev pub MarksLike : Marks → Marks → Type 0
@@ -84,10 +70,10 @@ module _ (C : Catalogue) where
   MarksLike (m ∷ ms) (n ∷ ns) = MarkLike m n × MarksLike ms ns
   MarksLike _ _ = ⊥
 
-  abbrev JoinLike : JoinMarks → JoinMarks → Sight → Sight → Type 0
+  abbrev pub JoinLike : JoinMarks → JoinMarks → Sight → Sight → Type 0
   JoinLike j k v w = (j.tab ≡ k.tab) × MarksLike (j.on v) (k.on w)
 
-  abbrev ChainLike : ChainMarks → ChainMarks → Sight → Sight → Type 0
+  abbrev pub ChainLike : ChainMarks → ChainMarks → Sight → Sight → Type 0
   ChainLike a b v w = (tables_of_chain a ≡ tables_of_chain b) × ((a.first ≡ b.first) × ((all before : List Name) → MarksLike (joins_marks v all before (a.first ∷ []) a.joins) (joins_marks w all before (b.first ∷ []) b.joins)))
 
   move : {A : Type 0} (R : A → A → Type 0) (a c b d : A) → a ≡ c → b ≡ d → R c d → R a b
@@ -101,28 +87,6 @@ module _ (C : Catalogue) where
   both (x ∷ xs) (u ∷ us) ys ws h k = (h.0, both xs us ys ws h.1 k)
   both [] (u ∷ us) ys ws h k = absurd h
   both (x ∷ xs) [] ys ws h k = absurd h
-
-  level_like : (seen others : List Seen) → SeenLikes seen others → level_in seen ≡ level_in others
-  level_like [] [] h = refl
-  level_like (s ∷ seen) (t ∷ others) h = ap suc h.0.0
-  level_like [] (t ∷ others) h = absurd h
-  level_like (s ∷ seen) [] h = absurd h
-
-  items_like : (n m : ℕ) → n ≡ m → (tabs : List Tab) → SeenLikes (map (at_level n) tabs) (map (at_level m) tabs)
-  items_like n m e [] = tt
-  items_like n m e (tab ∷ tabs) = ((e, (refl, refl)), items_like n m e tabs)
-
-  seen_before : (n m : ℕ) → n ≡ m → (tabs : List Tab) (seen others : List Seen) → SeenLikes seen others → SeenLikes (map (at_level n) tabs ++ seen) (map (at_level m) tabs ++ others)
-  seen_before n m e [] seen others h = h
-  seen_before n m e (tab ∷ tabs) seen others h = ((e, (refl, refl)), seen_before n m e tabs seen others h)
-
-  inside_like : (v w : Sight) (tabs : List Tab) → SightLike v w → SightLike (inside v tabs) (inside w tabs)
-  inside_like v w tabs s =
-      let e : level_in v.seen ≡ level_in w.seen = level_like v.seen w.seen s.1.1.0 in
-      (e, (items_like (level_in v.seen) (level_in w.seen) e tabs, (seen_before (level_in v.seen) (level_in w.seen) e tabs v.seen w.seen s.1.1.0, λ i. calls_of tabs ++ s.1.1.1 i)))
-
-  inside_on_like : (v w : Sight) (all : List Name) (tabs : List Tab) → SightLike v w → SightLike (inside_on v all tabs) (inside_on w all tabs)
-  inside_on_like v w all tabs s = let k : SightLike (inside v tabs) (inside w tabs) = inside_like v w tabs s in (k.0, (k.1.0, (k.1.1.0, λ i. all ++ s.1.1.1 i)))
 
   columns_like : (seen others : List Seen) → SeenLikes seen others → (cs : List Column) → MarksLike (map (column seen) cs) (map (column others) (map (with_item C seen) cs))
   columns_like seen others s [] = tt
@@ -330,3 +294,6 @@ module _ (C : Catalogue) where
 
   pub form_expr : (x : Expr) → GoodExpr x
   form_expr = ind-Expr GoodCond GoodExpr GoodItem GoodJoin GoodArm GoodChain GoodChoice GoodQuery GoodSigned (λ x y is. subst (λ z. GoodCond (roll-Cond z)) is (cond_good y)) (λ x y is. subst (λ z. GoodExpr (roll-Expr z)) is (expr_good y)) (λ x y is. subst (λ z. GoodItem (roll-Item z)) is (item_good y)) (λ x y is. subst (λ z. GoodJoin (roll-Join z)) is (join_good y)) (λ x y is. subst (λ z. GoodArm (roll-Arm z)) is (arm_good y)) (λ x y is. subst (λ z. GoodChain (roll-Chain z)) is (chain_good y)) (λ x y is. subst (λ z. GoodChoice (roll-Choice z)) is (choice_good y)) (λ x y is. subst (λ z. GoodQuery (roll-Query z)) is (query_good y.distinct y.items y.from y.filter y.group y.having)) (λ x y is. subst (λ z. GoodSigned (roll-Signed z)) is (signed_good y))
+
+  pub form_chain : (x : Chain) → GoodChain x
+  form_chain = ind-Chain GoodCond GoodExpr GoodItem GoodJoin GoodArm GoodChain GoodChoice GoodQuery GoodSigned (λ x y is. subst (λ z. GoodCond (roll-Cond z)) is (cond_good y)) (λ x y is. subst (λ z. GoodExpr (roll-Expr z)) is (expr_good y)) (λ x y is. subst (λ z. GoodItem (roll-Item z)) is (item_good y)) (λ x y is. subst (λ z. GoodJoin (roll-Join z)) is (join_good y)) (λ x y is. subst (λ z. GoodArm (roll-Arm z)) is (arm_good y)) (λ x y is. subst (λ z. GoodChain (roll-Chain z)) is (chain_good y)) (λ x y is. subst (λ z. GoodChoice (roll-Choice z)) is (choice_good y)) (λ x y is. subst (λ z. GoodQuery (roll-Query z)) is (query_good y.distinct y.items y.from y.filter y.group y.having)) (λ x y is. subst (λ z. GoodSigned (roll-Signed z)) is (signed_good y))

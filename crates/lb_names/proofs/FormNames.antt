@@ -21,7 +21,8 @@ use Rattle.lb_names.proofs.There.{neither}
 use Rattle.lb_names.proofs.Stays.{column_stays}
 use Rattle.lb_names.proofs.Apart.{IsApart, AllApart, Good, Taken}
 use Rattle.lb_names.proofs.ApartMarks.{apart_cond, apart_expr}
-use Rattle.lb_names.proofs.FormMarks.{SeenLikes, SightLike, MarkLike, MarksLike, form_cond, form_expr}
+use Rattle.lb_names.proofs.FormMarks.{MarkLike, MarksLike, form_cond, form_expr}
+use Rattle.lb_names.proofs.LikeSights.{SeenLikes, SightLike}
 
 module _ (C : Catalogue) where
   -- ---- columns
@@ -30,7 +31,7 @@ module _ (C : Catalogue) where
   same_name n s t None = refl
   same_name n s t (Some f) = refl
 
-  qualified_like : (y n : Name) (seen others : List Seen) → SeenLikes C seen others → unresolved (qualified C y n seen) ≡ unresolved (qualified C y n others)
+  qualified_like : (y n : Name) (seen others : List Seen) → SeenLikes seen others → unresolved (qualified C y n seen) ≡ unresolved (qualified C y n others)
   qualified_like y n [] [] h = refl
   qualified_like y n (s ∷ seen) (t ∷ others) h =
       let here : unresolved (column_of C n s) ≡ unresolved (column_of C n t) = (λ i. unresolved (found_in n s (field_named n (listed (C.columns (h.0.1.0 i)))))) ∙ same_name n s t (field_named n (columns_of C t.tab)) in
@@ -42,20 +43,20 @@ module _ (C : Catalogue) where
   qualified_like y n [] (t ∷ others) h = absurd h
   qualified_like y n (s ∷ seen) [] h = absurd h
 
-  known_stays : (seen others : List Seen) → SeenLikes C seen others → are_apart seen ≡ true → (c : Column) (r : Resolved) → resolve C seen c ≡ r → unresolved r ≡ None → unresolved (resolve C others (with_item C seen c)) ≡ None
+  known_stays : (seen others : List Seen) → SeenLikes seen others → are_apart seen ≡ true → (c : Column) (r : Resolved) → resolve C seen c ≡ r → unresolved r ≡ None → unresolved (resolve C others (with_item C seen c)) ≡ None
   known_stays seen others h a c (Ok x) e k =
       ap (λ z. unresolved (resolve C others (by_item c z))) e
       ∙ sym (qualified_like (correlation x.item.tab) c.name seen others h)
       ∙ ap unresolved (sym (ap (λ z. resolve C seen (by_item c z)) e) ∙ column_stays C seen c x a e)
   known_stays seen others h a c (Err n) e k = absurd cc
 
-  called_like : (x : Name) (items others : List Seen) → SeenLikes C items others → is_called x items ≡ is_called x others
+  called_like : (x : Name) (items others : List Seen) → SeenLikes items others → is_called x items ≡ is_called x others
   called_like x [] [] h = refl
   called_like x (s ∷ items) (t ∷ others) h = λ i. bytes_eq (h.0.1.1 i) x || called_like x items others h.1 i
   called_like x [] (t ∷ others) h = absurd h
   called_like x (s ∷ items) [] h = absurd h
 
-  star_stays : (items others : List Seen) → SeenLikes C items others → (x : Option Name) → column_refusal C (star items x) ≡ None → column_refusal C (star others x) ≡ None
+  star_stays : (items others : List Seen) → SeenLikes items others → (x : Option Name) → column_refusal C (star items x) ≡ None → column_refusal C (star others x) ≡ None
   star_stays items others h None k = refl
   star_stays items others h (Some x) k = (λ i. unless_known (sym (called_like x items others h) i) x) ∙ k
 
@@ -107,11 +108,11 @@ module _ (C : Catalogue) where
   columns_stay [] (n ∷ ns) h a k = absurd h
   columns_stay (m ∷ ms) [] h a k = absurd h
 
-  all_taken : (ms : Marks) → first (item_refusal C true) ms ≡ None → Taken C ms
+  pub all_taken : (ms : Marks) → first (item_refusal C true) ms ≡ None → Taken C ms
   all_taken [] h = tt
   all_taken (m ∷ ms) h = let e : (item_refusal C true m ≡ None) × (first (item_refusal C true) ms ≡ None) = neither (item_refusal C true m) (first (item_refusal C true) ms) h in (e.0, all_taken ms e.1)
 
-  items_none : (ms : Marks) → passes C true ms None ≡ None → first (item_refusal C true) ms ≡ None
+  pub items_none : (ms : Marks) → passes C true ms None ≡ None → first (item_refusal C true) ms ≡ None
   items_none ms h = (neither (first (item_refusal C true) ms) (or_else (first (column_refusal C) ms) (or_else (first (call_refusal C) ms) (first (text_refusal C) ms))) h).0
 
   passes_stay : (ms ns : Marks) → MarksLike C ms ns → AllApart ms → passes C true ms None ≡ None → passes C true ns None ≡ None
@@ -123,25 +124,25 @@ module _ (C : Catalogue) where
 
   -- ---- stored conditions
 
-  over_like : (tab other : Tab) → tab.table ≡ other.table → correlation tab ≡ correlation other → SightLike C (over tab) (over other)
+  pub over_like : (tab other : Tab) → tab.table ≡ other.table → correlation tab ≡ correlation other → SightLike (over tab) (over other)
   over_like tab other t n = (refl, (((refl, (t, n)), tt), (((refl, (t, n)), tt), λ i. n i ∷ [])))
 
-  over_good : (tab : Tab) → Good (over tab)
+  pub over_good : (tab : Tab) → Good (over tab)
   over_good tab = (refl, ((λ i. (bytes_eq-Decides (correlation tab) (correlation tab)).1 refl i || false), tt))
 
-  cond_like : (c : Cond) (v w : Sight) → SightLike C v w → MarksLike C (cond_marks c v) (cond_marks (qualified_cond C c v.seen) w)
+  cond_like : (c : Cond) (v w : Sight) → SightLike v w → MarksLike C (cond_marks c v) (cond_marks (qualified_cond C c v.seen) w)
   unfolding cond_marks qualified_cond
   cond_like c v w s = form_cond C c v w s
 
-  expr_like : (e : Expr) (v w : Sight) → SightLike C v w → MarksLike C (expr_marks e v) (expr_marks (qualified_expr C e v.seen) w)
+  expr_like : (e : Expr) (v w : Sight) → SightLike v w → MarksLike C (expr_marks e v) (expr_marks (qualified_expr C e v.seen) w)
   unfolding expr_marks qualified_expr
   expr_like e v w s = form_expr C e v w s
 
-  cond_apart : (c : Cond) (v : Sight) → Good v → Taken C (cond_marks c v) → AllApart (cond_marks c v)
+  pub cond_apart : (c : Cond) (v : Sight) → Good v → Taken C (cond_marks c v) → AllApart (cond_marks c v)
   unfolding cond_marks
   cond_apart c v g t = apart_cond C c v g t
 
-  expr_apart : (e : Expr) (v : Sight) → Good v → Taken C (expr_marks e v) → AllApart (expr_marks e v)
+  pub expr_apart : (e : Expr) (v : Sight) → Good v → Taken C (expr_marks e v) → AllApart (expr_marks e v)
   unfolding expr_marks
   expr_apart e v g t = apart_expr C e v g t
 

@@ -27,7 +27,14 @@ pub mod GrownStars
 pub mod GrownSteps
 pub mod GrownTypes
 pub mod GrownRules
+pub mod LikeSights
 pub mod FormMarks
 pub mod Apart
 pub mod ApartMarks
 pub mod FormNames
+pub mod FormLists
+pub mod FormColumns
+pub mod FormSteps
+pub mod FormQueries
+pub mod FormTypes
+pub mod FormRules

@@ -89,3 +89,8 @@ pub record TypesOutlastColumns (C D : Catalogue) : Type 0 where
 pub record FormsKeepNames (C : Catalogue) : Type 0 where
   pub permission : (tab other : Tab) → tab.table ≡ other.table → correlation tab ≡ correlation other → (c : Cond) → permission_names_refused C tab c ≡ None → permission_names_refused C other (permission_qualified C tab c) ≡ None
   pub mask : (tab other : Tab) → tab.table ≡ other.table → correlation tab ≡ correlation other → (e : Expr) → mask_names_refused C tab e ≡ None → mask_names_refused C other (mask_qualified C tab e) ≡ None
+
+-- The types of the qualified form are refused where those of the condition are, at the same node, if the names of the condition are not, over the table by the same correlation name.
+pub record FormsKeepTypes (C : Catalogue) : Type 0 where
+  pub permission : (tab other : Tab) → tab.table ≡ other.table → correlation tab ≡ correlation other → (c : Cond) → permission_names_refused C tab c ≡ None → permission_types_refused C other (permission_qualified C tab c) ≡ permission_types_refused C tab c
+  pub mask : (tab other : Tab) → tab.table ≡ other.table → correlation tab ≡ correlation other → (column : Name) (e : Expr) → mask_names_refused C tab e ≡ None → mask_types_refused C other column (mask_qualified C tab e) ≡ mask_types_refused C tab column e

@@ -3,7 +3,7 @@ ghost use Rattle.std.specs.Prelude.{◌≡◌, Some, None, [], ◌∷◌, true};
 ghost use Rattle.lb_stmt.specs.declared.write.Stmt.TheVariants as stmts;
 ghost use Rattle.lb_names.specs.declared.refused.Refused.TheVariants.{BadLabel, Exists, Types, Unknown};
 ghost use Rattle.lb_names.specs.Examples as e;
-ghost use Rattle.lb_names.specs.Laws.{ColumnsStay, FormsAreQualified, FormsHaveAFrame, FormsKeepMentions, FormsKeepNames, MentionsAreMarked, MentionsAreThere, NamesHaveAFrame, NamesOutlastColumns, TypesHaveAFrame, TypesOutlastColumns, TypingCarriesMarks};
+ghost use Rattle.lb_names.specs.Laws.{ColumnsStay, FormsAreQualified, FormsHaveAFrame, FormsKeepMentions, FormsKeepNames, FormsKeepTypes, MentionsAreMarked, MentionsAreThere, NamesHaveAFrame, NamesOutlastColumns, TypesHaveAFrame, TypesOutlastColumns, TypingCarriesMarks};
 ghost use Rattle.lb_names.specs.Scopes.{Catalogue};
 ghost use Rattle.lb_names.specs.Small.{a, k, q, small, table, w, x};
 ghost use Rattle.lb_names.specs.StatementMarks.{marks_of};
@@ -48,6 +48,12 @@ pub fn forms_are_qualified()
 /// correlation name, written or not.
 pub fn forms_keep_names()
     ensures { (C : Catalogue) → FormsKeepNames C }
+{}
+
+/// Where the names of a permission or a mask are not refused, its qualified form is refused for types exactly where the form as
+/// written is, and for the same node, over the table by the same correlation name, written or not.
+pub fn forms_keep_types()
+    ensures { (C : Catalogue) → FormsKeepTypes C }
 {}
 
 /// A column that is qualified means what it meant, where no two items in sight have one correlation name.

@@ -8,3 +8,9 @@ mod Labelled
 mod Chained
 mod Written
 mod Stored
+mod MaskedGroups
+mod Grouped
+mod Given
+mod Refused
+mod Denied
+mod Sessions

@@ -26,9 +26,17 @@ insert_into n columns es m = stmts.Insert (record { table = n; columns = Some co
 abbrev pub insert_where : List ℕ → Expr → List ℕ → Cond → Stmt
 insert_where n e m c = stmts.Insert (record { table = n; columns = None; source = sources.Query (asked (select (item e ∷ []) (from (tab m) ∷ []) (Some c))) })
 
+-- INSERT INTO n VALUES rows
+abbrev pub insert_values : List ℕ → List (List Expr) → Stmt
+insert_values n rows = stmts.Insert (record { table = n; columns = None; source = sources.Rows rows })
+
 -- UPDATE n SET column = e WHERE c
 abbrev pub update : List ℕ → List ℕ → Expr → Option Cond → Stmt
 update n column e c = stmts.Update (record { target = tab n; assignments = record { column = column; value = e } ∷ []; filter = c })
+
+-- UPDATE n SET column = e, other = f
+abbrev pub update_both : List ℕ → List ℕ → Expr → List ℕ → Expr → Stmt
+update_both n column e other f = stmts.Update (record { target = tab n; assignments = record { column = column; value = e } ∷ record { column = other; value = f } ∷ []; filter = None })
 
 -- DELETE FROM n WHERE c
 abbrev pub delete : List ℕ → Cond → Stmt

@@ -11,3 +11,9 @@ pub mod Labelled
 pub mod Chained
 pub mod Written
 pub mod Stored
+pub mod MaskedGroups
+pub mod Grouped
+pub mod Given
+pub mod Refused
+pub mod Denied
+pub mod Sessions

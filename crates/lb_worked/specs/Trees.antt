@@ -126,6 +126,14 @@ select_distinct items chains = roll-Query (record { distinct = true; items = ite
 abbrev pub select_groups : List Item → List Chain → List Column → Query
 select_groups items chains columns = roll-Query (record { distinct = false; items = items; from = chains; filter = None; group = columns; having = None })
 
+-- SELECT items FROM tables WHERE condition GROUP BY columns
+abbrev pub select_groups_of : List Item → List Chain → Option Cond → List Column → Query
+select_groups_of items chains filter columns = roll-Query (record { distinct = false; items = items; from = chains; filter = filter; group = columns; having = None })
+
+-- SELECT items FROM tables WHERE condition GROUP BY columns HAVING condition
+abbrev pub select_having : List Item → List Chain → Option Cond → List Column → Cond → Query
+select_having items chains filter columns c = roll-Query (record { distinct = false; items = items; from = chains; filter = filter; group = columns; having = Some c })
+
 -- ---- query statements
 
 abbrev pub asked : Query → Select

@@ -2,6 +2,8 @@
 ghost use Rattle.lb_worked.specs.Permitted.{TrueBeforeFault, FaultBeforeTrue, DisabledSavesNone, FalseIsHidden, NoPermission, NothingToCount, SeenBeforeJoined};
 ghost use Rattle.lb_worked.specs.Masked.{AggregatesMasked, SortsUnmasked, FiltersUnmasked, DistinctRefused, DistinctAllowed, PerItem, FirstMask, NullRow};
 ghost use Rattle.lb_worked.specs.Labelled.{WithLabel, WithoutLabel, WithExemption, WholeText, ReadableText, SecuredColumn, UnsecuredColumn};
+ghost use Rattle.lb_worked.specs.MaskedGroups.{DistinctUnmasked, DistinctShown, GroupsUnmasked, CountsMasked, HavingUnmasked};
+ghost use Rattle.lb_worked.specs.Sessions.{SeesOwn, OwnerIsNotFree, OneRole, NoRole, RoleIsNoGroup};
 
 /// The enabled permissions of a row are tried in the order of creation, up to the first that is true or faults.
 pub fn permissions_are_tried_in_order()
@@ -35,4 +37,22 @@ pub fn labels_decide_on_rows()
     ensures readable_text { ReadableText }
     ensures secured_column { SecuredColumn }
     ensures unsecured_column { UnsecuredColumn }
+{}
+
+/// DISTINCT, GROUP BY and HAVING work on unmasked values, and outputs and their aggregates on masked ones.
+pub fn groups_form_before_masks()
+    ensures distinct_unmasked { DistinctUnmasked }
+    ensures distinct_shown { DistinctShown }
+    ensures groups_unmasked { GroupsUnmasked }
+    ensures counts_masked { CountsMasked }
+    ensures having_unmasked { HavingUnmasked }
+{}
+
+/// Permissions see the session's user, roles and groups.
+pub fn permissions_know_the_session()
+    ensures sees_own { SeesOwn }
+    ensures owner_is_not_free { OwnerIsNotFree }
+    ensures one_role { OneRole }
+    ensures no_role { NoRole }
+    ensures role_is_no_group { RoleIsNoGroup }
 {}

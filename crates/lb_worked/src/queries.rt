@@ -3,6 +3,7 @@ ghost use Rattle.lb_worked.specs.Sure.{SurePartFirst, StopsAtUnknown, UnderNot, 
 ghost use Rattle.lb_worked.specs.Orders.{OutputsLast, LastFirst, DistinctFirst, KeysBeforeCut, InStops, BetweenStops, CoalesceStops, ScalarEvaluatesAll, ScalarHasOneRow, ExistsHasNoOutputs, LeftJoinNulls};
 ghost use Rattle.lb_worked.specs.Edges.{AtLimit, BeyondLimit, BeforeFirst, BeyondLast, FarBeyond};
 ghost use Rattle.lb_worked.specs.Chained.{OtherChain, LaterTable};
+ghost use Rattle.lb_worked.specs.Grouped.{FirstRowsOrder, OneGroup, NoGroup, HavingTrue, HavingUnknown, NullsNotCounted, SumOverflows, SumInRowOrder, MaxFits};
 
 /// WHERE tests the parts without arithmetic and subqueries first, and stops at the first that isn't true.
 pub fn sure_parts_come_first()
@@ -41,4 +42,17 @@ pub fn edges_are_exact()
 pub fn names_in_on_belong_to_its_chain()
     ensures other_chain { OtherChain }
     ensures later_table { LaterTable }
+{}
+
+/// Groups stand in the order of their first rows, nulls make one group, and aggregates pass nulls over.
+pub fn groups_keep_nulls()
+    ensures first_rows_order { FirstRowsOrder }
+    ensures one_group { OneGroup }
+    ensures no_group { NoGroup }
+    ensures having_true { HavingTrue }
+    ensures having_unknown { HavingUnknown }
+    ensures nulls_not_counted { NullsNotCounted }
+    ensures sum_overflows { SumOverflows }
+    ensures sum_in_row_order { SumInRowOrder }
+    ensures max_fits { MaxFits }
 {}

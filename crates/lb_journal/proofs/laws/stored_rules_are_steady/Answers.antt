@@ -1,33 +1,20 @@
 use Rattle.lb_journal.proofs.Steady.{reads, reads_mask, mentions, mask_mentions, stands, stands_mask, relabels, relabels_mask}
+use Rattle.lb_journal.proofs.Qualifies.{qualifies, qualifies_mask}
 use Rattle.lb_journal.proofs.Wider.{widens, widens_mask}
 use Rattle.lb_journal.proofs.laws.stored_rules_are_steady.Goals as goal
 
-pub returns-clause-reads : goal.returns-clause-reads
-returns-clause-reads c = reads
-
-pub returns-clause-reads_mask : goal.returns-clause-reads_mask
-returns-clause-reads_mask c = reads_mask
-
-pub returns-clause-mentions : goal.returns-clause-mentions
-returns-clause-mentions c = mentions
-
-pub returns-clause-mask_mentions : goal.returns-clause-mask_mentions
-returns-clause-mask_mentions c = mask_mentions
-
-pub returns-clause-stands : goal.returns-clause-stands
-returns-clause-stands c = stands
-
-pub returns-clause-stands_mask : goal.returns-clause-stands_mask
-returns-clause-stands_mask c = stands_mask
-
-pub returns-clause-relabels : goal.returns-clause-relabels
-returns-clause-relabels c = relabels
-
-pub returns-clause-relabels_mask : goal.returns-clause-relabels_mask
-returns-clause-relabels_mask c = relabels_mask
-
-pub returns-clause-widens : goal.returns-clause-widens
-returns-clause-widens c = widens
-
-pub returns-clause-widens_mask : goal.returns-clause-widens_mask
-returns-clause-widens_mask c = widens_mask
+pub returns : goal.returns
+returns c = record {
+  reads = reads;
+  reads_mask = reads_mask;
+  mentions = mentions;
+  mask_mentions = mask_mentions;
+  qualifies = qualifies;
+  qualifies_mask = qualifies_mask;
+  widens = widens;
+  widens_mask = widens_mask;
+  stands = stands;
+  stands_mask = stands_mask;
+  relabels = relabels;
+  relabels_mask = relabels_mask;
+}

@@ -1,0 +1,8 @@
+mod Wrote
+mod Writes
+mod DaysKept
+mod Qualified
+mod Kept
+mod ChangedTables
+mod Changes
+mod Steps
