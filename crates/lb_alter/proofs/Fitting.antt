@@ -16,19 +16,19 @@ use Rattle.lb_cat.specs.declared.catalog.LabelRec.{LabelRec}
 use Rattle.lb_rows.specs.KeyValues.{is_null, keys_differ}
 use Rattle.lb_rows.specs.Tables.{Tables, Version, is_version}
 use Rattle.lb_cat.specs.Catalog.{Cat, Table, Policy, table_named, policy_named, label_named, user_named, is_label, is_policy, first_cat, no_user}
-use Rattle.lb_cat.specs.Credentials.{label_in, parts_in, cred_label, cred}
+use Rattle.lb_cat.specs.Credentials.{held_parts, parts_in, cred_label, cred}
 use Rattle.lb_alter.specs.ChangeTable.{is_label_type}
 use Rattle.lb_alter.specs.Fits.{IsLabelIfHeld, FitsPolicy, FitsIfThere, IsLabelOf, HasType, FitsColumn, FitsTable, RowsFit, FitsRecord, TablesFit}
 use Rattle.lb_alter.specs.Laws.{CredentialsFit, FirstTablesFit, AllTablesFit}
 use Rattle.lb_alter.specs.Sound.{IsSound}
-use Rattle.lb_alter.specs.Stored.{Checks}
+use Rattle.lb_alter.specs.Stored.{StoredRules}
 use Rattle.lb_alter.proofs.SoundParts.{PolicyIsSound, apart}
 use Rattle.lb_alter.proofs.SoundUsers.{all_found, all_follow}
 use Rattle.lb_alter.proofs.Untouched.{named_there}
 
 -- ---- credentials
 
-module _ (K : Checks) (C : Cat) (s : IsSound K C) (p : Policy) (n : List ℕ) (there : policy_named C n ≡ Some p) where
+module _ (K : StoredRules) (C : Cat) (s : IsSound K C) (p : Policy) (n : List ℕ) (there : policy_named C n ≡ Some p) where
   its : PolicyIsSound C p
   its = all_found (PolicyIsSound C) (is_policy n) C.policies p (apart K C s).policies there
 
@@ -36,7 +36,7 @@ module _ (K : Checks) (C : Cat) (s : IsSound K C) (p : Policy) (n : List ℕ) (t
   held_label None f = tt
   held_label (Some l) f = f l refl
 
-  held_fits : (o : Option (List ℕ)) → IsLabelIfHeld p.shape (label_in (Some p) o)
+  held_fits : (o : Option (List ℕ)) → IsLabelIfHeld p.shape (held_parts (Some p) o)
   held_fits None = tt
   held_fits (Some m) = held_label (label_named p m) (λ l e. let h : IsLabel p.shape l.parts.items = all_found (λ (x : LabelRec). IsLabel p.shape x.parts.items) (is_label m) p.labels l its.shape.labels e in h)
 
@@ -47,22 +47,22 @@ module _ (K : Checks) (C : Cat) (s : IsSound K C) (p : Policy) (n : List ℕ) (t
 
   holding_fits : (h : Holding) → FitsPolicy p (cred_label C h)
   holding_fits h e = (
-    subst (λ (o : Option Policy). IsLabelIfHeld p.shape (label_in o h.read)) (sym (found_too h e)) (held_fits h.read),
-    subst (λ (o : Option Policy). IsLabelIfHeld p.shape (label_in o h.write)) (sym (found_too h e)) (held_fits h.write),
+    subst (λ (o : Option Policy). IsLabelIfHeld p.shape (held_parts o h.read)) (sym (found_too h e)) (held_fits h.read),
+    subst (λ (o : Option Policy). IsLabelIfHeld p.shape (held_parts o h.write)) (sym (found_too h e)) (held_fits h.write),
   )
 
   all_fit : (hs : List Holding) → AllByRecursion (FitsPolicy p) (map (cred_label C) hs)
   all_fit [] = tt
   all_fit (h ∷ hs) = (holding_fits h, all_fit hs)
 
-if_there : (K : Checks) (C : Cat) → IsSound K C → (user : List ℕ) (groups : List (List ℕ)) (n : List ℕ) → FitsIfThere (cred C user groups) (policy_named C n)
+if_there : (K : StoredRules) (C : Cat) → IsSound K C → (user : List ℕ) (groups : List (List ℕ)) (n : List ℕ) → FitsIfThere (cred C user groups) (policy_named C n)
 if_there K C s user groups n =
     elim (policy_named C n) as (λ o. policy_named C n ≡ o → FitsIfThere (cred C user groups) o) [
       | None ↦ λ _. tt
       | Some p ↦ λ e. all_fit K C s p n e (unwrap_or (user_named C user) (no_user user)).held
     ] refl
 
-pub credentials_fit : (K : Checks) → CredentialsFit K
+pub credentials_fit : (K : StoredRules) → CredentialsFit K
 credentials_fit K C s user groups [] = tt
 credentials_fit K C s user groups (keys.Policy n ∷ ks) = (if_there K C s user groups n, credentials_fit K C s user groups ks)
 credentials_fit K C s user groups (keys.Table n ∷ ks) = (tt, credentials_fit K C s user groups ks)

@@ -30,7 +30,8 @@ use Rattle.lb_alter.specs.ChangeTable.{new_table}
 use Rattle.lb_alter.specs.Fits.{IsLabelOf, FitsColumn, FitsTable, RowsFit, FitsRecord}
 use Rattle.lb_alter.specs.Labelled.{ColumnBelongs, LabelsBelong, IsOfPolicy}
 use Rattle.lb_alter.specs.Named.{AreDifferent}
-use Rattle.lb_alter.specs.Refusing.{Changed, OrRefused, ◌>>=◌, ◌>>◌, when, found, owner, done, alters, alters_policy}
+use Rattle.lb_alter.specs.Refusing.{Changed, ◌>>◌, when, found, owner, done, alters, alters_policy}
+use Rattle.lb_cat.specs.OrRefused.{OrRefused, ◌>>=◌}
 use Rattle.lb_alter.specs.Stored.{calls_policy}
 use Rattle.lb_alter.proofs.Fitting.{EachFits, KeepsLabels, KeepsType, SameColumn, SameShape, Moves, record_moves, value_moves, all_move, keeps_all, keeps_each, itself_zipped, same_move}
 use Rattle.lb_alter.proofs.SoundAlters.{found_by_name}

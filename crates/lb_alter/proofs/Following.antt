@@ -11,8 +11,8 @@ use Rattle.lb_cat.specs.declared.cred.Cred.{Cred}
 use Rattle.lb_rows.specs.Tables.{Tables, is_version}
 use Rattle.lb_cat.specs.Catalog.{Cat, Table, Policy, table_named, policy_named, is_table}
 use Rattle.lb_names.specs.Mentions.{Mentions, in_stmt}
-use Rattle.lb_alter.specs.Stored.{Checks}
-use Rattle.lb_alter.specs.Deps.{deps, deps_of, tables_for, policies_for, components_for, policy_of_table}
+use Rattle.lb_alter.specs.Stored.{StoredRules}
+use Rattle.lb_alter.specs.Deps.{deps, deps_of, tables_for, policies_for, components_for, policy_name_of}
 use Rattle.lb_alter.specs.Fits.{IsLabelOf, FitsIfThere, CredFitsKey, CredFits, FitsRecord, TablesFitKey, TablesFit}
 use Rattle.lb_alter.specs.Frame.{SameOn}
 use Rattle.lb_alter.specs.Labelled.{ColumnBelongs, LabelsBelong, IsOfPolicy}
@@ -37,7 +37,7 @@ module _ (P : List ℕ → Type 0) (f : List ℕ → Option (List ℕ)) where
       rest None i = i
       rest (Some y) i = i.1
 
-module _ (K : Checks) (C D : Cat) (s : IsSound K C) (T : Tables) (ms : Mentions) (same : SameOn (deps_of C ms) C D) where
+module _ (K : StoredRules) (C D : Cat) (s : IsSound K C) (T : Tables) (ms : Mentions) (same : SameOn (deps_of C ms) C D) where
   abbrev SamePolicy : List ℕ → Type 0
   SamePolicy n = policy_named D n ≡ policy_named C n
 
@@ -53,9 +53,9 @@ module _ (K : Checks) (C D : Cat) (s : IsSound K C) (T : Tables) (ms : Mentions)
   keeps_types t [] g b = tt
   keeps_types t (c ∷ cs) g b = (keeps_type t.policy c.ty g b.0.label, keeps_types t cs g b.1)
 
-  record_fits : (n : List ℕ) → table_named D n ≡ table_named C n → IfGiven SamePolicy (policy_of_table (table_named C n)) → FitsRecord D (table_named D n) (find (is_version n) T) → FitsRecord C (table_named C n) (find (is_version n) T)
+  record_fits : (n : List ℕ) → table_named D n ≡ table_named C n → IfGiven SamePolicy (policy_name_of (table_named C n)) → FitsRecord D (table_named D n) (find (is_version n) T) → FitsRecord C (table_named C n) (find (is_version n) T)
   record_fits n e g h =
-      elim (table_named C n) as (λ o. table_named C n ≡ o → IfGiven SamePolicy (policy_of_table o) → FitsRecord D o (find (is_version n) T) → FitsRecord C o (find (is_version n) T)) [
+      elim (table_named C n) as (λ o. table_named C n ≡ o → IfGiven SamePolicy (policy_name_of o) → FitsRecord D o (find (is_version n) T) → FitsRecord C o (find (is_version n) T)) [
         | None ↦ λ _ _ _. tt
         | Some t ↦ λ i j k.
             let b : LabelsBelong C t = all_found (LabelsBelong C) (is_table n) C.tables t s.belonging i in
@@ -72,7 +72,7 @@ module _ (K : Checks) (C D : Cat) (s : IsSound K C) (T : Tables) (ms : Mentions)
   abbrev component_keys : List Key
   component_keys = map (λ n. keys.Component n) (components_for C ms)
 
-  all_records : (ns : List (List ℕ)) → AllByRecursion (λ (n : List ℕ). table_named D n ≡ table_named C n) ns → AllByRecursion (λ (n : List ℕ). IfGiven SamePolicy (policy_of_table (table_named C n))) ns
+  all_records : (ns : List (List ℕ)) → AllByRecursion (λ (n : List ℕ). table_named D n ≡ table_named C n) ns → AllByRecursion (λ (n : List ℕ). IfGiven SamePolicy (policy_name_of (table_named C n))) ns
       → AllByRecursion (λ (n : List ℕ). FitsRecord D (table_named D n) (find (is_version n) T)) ns → AllByRecursion (TablesFitKey C T) (map (λ n. keys.Table n) ns)
   all_records [] e g h = tt
   all_records (n ∷ ns) e g h = (record_fits n e.0 g.0 h.0, all_records ns e.1 g.1 h.1)
@@ -83,7 +83,7 @@ module _ (K : Checks) (C D : Cat) (s : IsSound K C) (T : Tables) (ms : Mentions)
       once_all (TablesFitKey C T) (table_keys ++ (policy_keys ++ component_keys))
       (all_append (TablesFitKey C T) table_keys (policy_keys ++ component_keys)
       (all_records (tables_for C ms) (tables_same C D ms same)
-      (each_given SamePolicy (λ n. policy_of_table (table_named C n)) (tables_for C ms) (all_front SamePolicy (filter_map (λ n. policy_of_table (table_named C n)) (tables_for C ms)) _ (policies_same C D ms same)))
+      (each_given SamePolicy (λ n. policy_name_of (table_named C n)) (tables_for C ms) (all_front SamePolicy (filter_map (λ n. policy_name_of (table_named C n)) (tables_for C ms)) _ (policies_same C D ms same)))
       (all_mapped (TablesFitKey D T) (λ n. keys.Table n) (tables_for C ms) (all_front (TablesFitKey D T) table_keys _ all)))
       (all_append (TablesFitKey C T) policy_keys component_keys (all_mapped_to (TablesFitKey C T) (λ n. keys.Policy n) (λ n. tt) (policies_for C ms)) (all_mapped_to (TablesFitKey C T) (λ n. keys.Component n) (λ n. tt) (components_for C ms))))
 
@@ -104,7 +104,7 @@ module _ (C D : Cat) (c : Cred) (ms : Mentions) (same : SameOn (deps_of C ms) C 
       (all_policies (policies_for C ms) (policies_same C D ms same) (all_mapped (CredFitsKey D c) (λ n. keys.Policy n) (policies_for C ms) (all_front (CredFitsKey D c) ps cs (all_after (CredFitsKey D c) ts (ps ++ cs) all))))
       (all_mapped_to (CredFitsKey C c) (λ n. keys.Component n) (λ n. tt) (components_for C ms))))
 
-pub fits_follow : (K : Checks) → FitsFollow K
+pub fits_follow : (K : StoredRules) → FitsFollow K
 fits_follow K C D s sound same =
     let e : deps D s ≡ deps C s = deps_stay C D s same in
     record {

@@ -18,7 +18,8 @@ use Rattle.lb_stmt.specs.declared.change.ComponentDef.{ComponentDef}
 use Rattle.lb_stmt.specs.declared.change.ComponentDef.TheVariants as definitions
 use Rattle.lb_stmt.specs.declared.change.TreeElement.{TreeElement}
 use Rattle.lb_alter.specs.ChangePolicy.{kind_of_definition, elements_of, element_refusal, with_elements}
-use Rattle.lb_alter.specs.Refusing.{OrRefused, ◌>>◌}
+use Rattle.lb_alter.specs.Refusing.{◌>>◌}
+use Rattle.lb_cat.specs.OrRefused.{OrRefused}
 
 -- ---- the elements of a statement
 

@@ -22,7 +22,7 @@ use Rattle.lb_alter.specs.Named.{AreDifferent, HasTable}
 use Rattle.lb_alter.specs.Refusing.{secadm, alters}
 use Rattle.lb_alter.specs.Sound.{IsSound}
 use Rattle.lb_alter.specs.Steady.{IsSteady}
-use Rattle.lb_alter.specs.Stored.{Checks}
+use Rattle.lb_alter.specs.Stored.{StoredRules}
 use Rattle.lb_alter.specs.Valid.{IsValid, IsValidMask}
 use Rattle.lb_alter.proofs.SoundGrants.{among_filter, different_filter, found_then, owner_then, table_there, with_user_privileges_sound}
 use Rattle.lb_alter.proofs.SoundParts.{table_names, all_map}
@@ -114,7 +114,7 @@ pub acts_case : (P : Table → Type 0) (t : Table) → ((row column : Bool) → 
 acts_case P t f first None = control_case P t f first.of first.activate t.row_control t.column_control
 acts_case P t f first (Some second) = control_case (λ (x : Table). P (with_act second x)) t (control_case P t f second.of second.activate) first.of first.activate t.row_control t.column_control
 
-module _ (K : Checks) (steady : IsSteady K) (C : Cat) (T : Tables) (s : IsSound K C) where
+module _ (K : StoredRules) (steady : IsSteady K) (C : Cat) (T : Tables) (s : IsSound K C) where
   pub activate_sound : (user n : List ℕ) (first : Activation) (second : Option Activation) → LeavesSound K (activate C T user n first second)
   activate_sound user n first second =
       test_sound K (secadm C user) _ (λ _. found_then K n (table_named C n) _

@@ -26,7 +26,7 @@ use Rattle.lb_alter.specs.Named.{AreDifferent, are_different, IfGiven, HasPolicy
 use Rattle.lb_alter.specs.Refusing.{exists_already, when, alters}
 use Rattle.lb_alter.specs.Sound.{IsSound}
 use Rattle.lb_alter.specs.Steady.{IsSameColumn, IsWider, IsSteady}
-use Rattle.lb_alter.specs.Stored.{Checks}
+use Rattle.lb_alter.specs.Stored.{StoredRules}
 use Rattle.lb_alter.specs.Valid.{IsValid, TypesAt, IsValidMask, called}
 use Rattle.lb_alter.proofs.SoundAlters.{by_own_name, kept_map, kept_by}
 use Rattle.lb_alter.proofs.SoundGrants.{found_then, owner_then, is_there}
@@ -121,7 +121,7 @@ module _ (n : List ℕ) (ty : PlainType) where
   no_label_more t None h = tt
   no_label_more t (Some at) h = label_at_more t.columns at ∙ h
 
-  types_more : (K : Checks) (D : Cat) (t : Table) (m : MaskRec) (cs : List ColumnRec) (at : ℕ) → TypesAt K D t m (slice_get cs at) → TypesAt K D (record t { columns = t.columns ++ added ∷ [] }) m (slice_get (cs ++ added ∷ []) at)
+  types_more : (K : StoredRules) (D : Cat) (t : Table) (m : MaskRec) (cs : List ColumnRec) (at : ℕ) → TypesAt K D t m (slice_get cs at) → TypesAt K D (record t { columns = t.columns ++ added ∷ [] }) m (slice_get (cs ++ added ∷ []) at)
   types_more K D t m [] at h = absurd h
   types_more K D t m (c ∷ cs) zero h = (h.0, h.1)
   types_more K D t m (c ∷ cs) (suc at) h = types_more K D t m cs at h
@@ -137,7 +137,7 @@ module _ (n : List ℕ) (ty : PlainType) where
   wider_more : (t : Table) → 1 ≤ length t.columns → IsWider t (record t { columns = t.columns ++ added ∷ [] })
   wider_more t some = record { name = refl; some = some; more = added ∷ []; same = zipped_more t.columns; rest = rest_more t.columns; plain = ap (λ (b : Bool). b || false) (plain_is ty) }
 
-  more_sound : (K : Checks) (D : Cat) (t : Table) → nat_le 64 (length t.columns) ≡ false → IsWithinWidth (plain_type ty) → is_some (find (is_column n) t.columns) ≡ false → TableIsSound K D t → TableIsSound K D (record t { columns = t.columns ++ added ∷ [] })
+  more_sound : (K : StoredRules) (D : Cat) (t : Table) → nat_le 64 (length t.columns) ≡ false → IsWithinWidth (plain_type ty) → is_some (find (is_column n) t.columns) ≡ false → TableIsSound K D t → TableIsSound K D (record t { columns = t.columns ++ added ∷ [] })
   more_sound K D t room wide new h =
       let u : Table = record t { columns = t.columns ++ added ∷ [] } in
       record {
@@ -184,7 +184,7 @@ module _ (policy : List ℕ) where
       let so : false ≡ true = no in
       absurd cc
 
-module _ (K : Checks) (D : Cat) (t : Table) (policy : List ℕ) (none : t.policy ≡ None) (there : HasPolicy D policy) where
+module _ (K : StoredRules) (D : Cat) (t : Table) (policy : List ℕ) (none : t.policy ≡ None) (there : HasPolicy D policy) where
   with_policy_key : (key : Option ℕ) → HasKeyColumn t key → HasKeyColumn (record t { policy = Some policy }) key
   with_policy_key None h = tt
   with_policy_key (Some at) h = record { place = h.place; not_null = h.not_null }
@@ -271,13 +271,13 @@ module _ (o : Option (List ℕ)) (n : List ℕ) where
   no_label_at t None h = tt
   no_label_at t (Some at) h = same_label_at t.columns at ∙ h
 
-  same_types_at : (K : Checks) (D : Cat) (t : Table) (m : MaskRec) (cs : List ColumnRec) (at : ℕ) → TypesAt K D t m (slice_get cs at) → TypesAt K D (record t { columns = map changed t.columns }) m (slice_get (map changed cs) at)
+  same_types_at : (K : StoredRules) (D : Cat) (t : Table) (m : MaskRec) (cs : List ColumnRec) (at : ℕ) → TypesAt K D t m (slice_get cs at) → TypesAt K D (record t { columns = map changed t.columns }) m (slice_get (map changed cs) at)
   same_types_at K D t m [] at h = absurd h
   same_types_at K D t m (c ∷ cs) zero h = (subst (λ (column : List ℕ). K.mask_types D (called t m.correlation) column m.value ≡ None) (sym (same_name c)) h.0, ap is_label_type (same_type c) ∙ h.1)
   same_types_at K D t m (c ∷ cs) (suc at) h = same_types_at K D t m cs at h
 
   -- what is asked of the columns that are changed
-  module _ (K : Checks) (D : Cat) (t : Table) (here : IfGiven (IsLabelHere D t) o) where
+  module _ (K : StoredRules) (D : Cat) (t : Table) (here : IfGiven (IsLabelHere D t) o) where
     belongs : (c : ColumnRec) → ColumnBelongs D t c → ColumnBelongs D (record t { columns = map changed t.columns }) (changed c)
     belongs c h = elim (is_column n c) as (λ b. ColumnBelongs D (record t { columns = map changed t.columns }) (cond b (secure o c) c)) [
       | true ↦ record { label = h.label; secured = here }
@@ -350,7 +350,7 @@ so_false : (b : Bool) (r : Refusal) → when b r ≡ None → b ≡ false
 so_false true r h = absurd cc
 so_false false r h = refl
 
-module _ (K : Checks) (steady : IsSteady K) (C : Cat) (T : Tables) (s : IsSound K C) where
+module _ (K : StoredRules) (steady : IsSteady K) (C : Cat) (T : Tables) (s : IsSound K C) where
   pub add_policy_sound : (user n policy : List ℕ) → LeavesSound K (add_policy C T user n policy)
   add_policy_sound user n policy =
       owner_then K C user n _ (λ t e. test_sound K (exists_already t.policy) _ (λ none. found_then K policy (policy_named C policy) _

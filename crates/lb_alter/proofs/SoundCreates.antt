@@ -26,7 +26,7 @@ use Rattle.lb_alter.specs.Named.{AreDifferent, IfGiven, HasTable, HasPolicy}
 use Rattle.lb_alter.specs.Refusing.{when, earliest, each_passes}
 use Rattle.lb_alter.specs.Sound.{IsSound}
 use Rattle.lb_alter.specs.Steady.{IsSteady}
-use Rattle.lb_alter.specs.Stored.{Checks}
+use Rattle.lb_alter.specs.Stored.{StoredRules}
 use Rattle.lb_alter.proofs.SoundColumns.{plain_is, has_it, width_fits}
 use Rattle.lb_alter.proofs.SoundKinds.{is_new, all_there, reads_there, not_full, not_more}
 use Rattle.lb_alter.proofs.SoundParts.{TableIsSound, Parts, apart, together, table_names, Stands, all_map, folded_of}
@@ -201,7 +201,7 @@ module _ (es : List Element) (policy : Option (List ℕ)) where
         | false ↦ λ _ i. not_null_next d ds (not_null_first ds) at h (i ∙ one_plus _)
       ] refl e
 
-module _ (K : Checks) (steady : IsSteady K) (C : Cat) (T : Tables) (s : IsSound K C) (user n : List ℕ) (es : List Element) (policy : Option (List ℕ)) (new : is_some (table_named C n) ≡ false) where
+module _ (K : StoredRules) (steady : IsSteady K) (C : Cat) (T : Tables) (s : IsSound K C) (user n : List ℕ) (es : List Element) (policy : Option (List ℕ)) (new : is_some (table_named C n) ≡ false) where
   abbrev pub Made : Table
   Made = new_table user n es policy
 
@@ -295,7 +295,7 @@ module _ (K : Checks) (steady : IsSteady K) (C : Cat) (T : Tables) (s : IsSound 
       (put_table_parts K C Made (HasTable C) (Stands C) (reads_there K C p steady With (folded_of K C p) same (λ m _. refl) (λ m _. refl))
       (all_there (λ (x : Table). x.name) C.tables) (λ m z. z) (λ m i z. ap has_labels (same m i) ∙ z) (omega (arith, room, more)) (subst AreDifferent (sym (new_table_names C.tables new)) p.stored) h p)
 
-module _ (K : Checks) (steady : IsSteady K) (C : Cat) (T : Tables) (s : IsSound K C) where
+module _ (K : StoredRules) (steady : IsSteady K) (C : Cat) (T : Tables) (s : IsSound K C) where
   pub create_table_sound : (user n : List ℕ) (es : List Element) (policy : Option (List ℕ)) → 1 ≤ length es → LeavesSound K (create_table C T user n es policy)
   create_table_sound user n es policy some =
       test_sound K (when (is_some (table_named C n)) (refusals.Exists n)) _ (λ new. test_sound K (when (nat_le 64 (length C.tables)) (refusals.Limit limits.Tables 64)) _

@@ -15,13 +15,13 @@ use Rattle.lb_names.specs.Mentions.{Mentions, table, policy, label, is_table_men
 use Rattle.lb_alter.specs.ChangeControl.{has_labels, is_bad_source}
 use Rattle.lb_alter.specs.ChangePolicy.{has_policy, table_name, first_label, drop_policy_of}
 use Rattle.lb_alter.specs.ChangeTable.{has_label, policy_of, user_key, drop_table_of}
-use Rattle.lb_alter.specs.Deps.{in_table, policy_of_table}
+use Rattle.lb_alter.specs.Deps.{in_table, policy_name_of}
 use Rattle.lb_alter.specs.Labelled.{IsPolicyLabel, HoldsLabels}
 use Rattle.lb_alter.specs.Named.{AreDifferent, IfGiven, HasTable, HasPolicy, HasComponent, HoldsSomething, GrantsSomething, HasFoldedNames}
 use Rattle.lb_alter.specs.Refusing.{in_use, secadm}
 use Rattle.lb_alter.specs.Sound.{IsSound}
 use Rattle.lb_alter.specs.Steady.{IsSteady}
-use Rattle.lb_alter.specs.Stored.{Checks, Stored, stored_in, stored_name, mentions_of, mentioned_in, names_table, user_of_table, calls_policy}
+use Rattle.lb_alter.specs.Stored.{StoredRules, Stored, stored_in, stored_name, mentions_of, mentioned_in, names_table, user_of_table, calls_policy}
 use Rattle.lb_alter.proofs.SoundGrants.{different_filter, found_then, owner_then}
 use Rattle.lb_alter.proofs.SoundKinds.{none_found, not_in_use, all_there, policy_there, components_there}
 use Rattle.lb_alter.proofs.SoundParts.{Stands, InPermissions, InMasks, stored_apart, stored_together, TableIsSound, PolicyIsSound, Parts, apart, together, table_names, Reads, reads_kept, stored_moves, all_map, Sources, folded_of, source_stands}
@@ -72,7 +72,7 @@ all_flat_apart : {A B : Type 0} (P : B → Type 0) (f : A → List B) (xs : List
 all_flat_apart P f [] h = tt
 all_flat_apart P f (x ∷ xs) h = (all_front P (f x) _ h, all_flat_apart P f xs (all_after P (f x) _ h))
 
-module _ (K : Checks) (steady : IsSteady K) (C : Cat) (T : Tables) (s : IsSound K C) (n : List ℕ) where
+module _ (K : StoredRules) (steady : IsSteady K) (C : Cat) (T : Tables) (s : IsSound K C) (n : List ℕ) where
   p : Parts K C
   p = apart K C s
 
@@ -135,9 +135,9 @@ module _ (K : Checks) (steady : IsSteady K) (C : Cat) (T : Tables) (s : IsSound 
               | Some t ↦ λ e. let h : Left t = all_found Left (is_table m) C.tables t left e in calls_stand t.name (mentioned_in t) h.mentions
             ] refl
 
-        owned : (m : List ℕ) → IfGiven (HasPolicy NoPolicy) (policy_of_table (table_named C m))
+        owned : (m : List ℕ) → IfGiven (HasPolicy NoPolicy) (policy_name_of (table_named C m))
         owned m =
-            elim (table_named C m) as (λ o. table_named C m ≡ o → IfGiven (HasPolicy NoPolicy) (policy_of_table o)) [
+            elim (table_named C m) as (λ o. table_named C m ≡ o → IfGiven (HasPolicy NoPolicy) (policy_name_of o)) [
               | None ↦ λ _. tt
               | Some t ↦ λ e. let h : Left t = all_found Left (is_table m) C.tables t left e in h.policy
             ] refl

@@ -23,10 +23,11 @@ use Rattle.lb_alter.specs.ChangeGrant.{user_or_new, reads, writes, held_refusal,
 use Rattle.lb_alter.specs.ChangeTable.{has_label}
 use Rattle.lb_alter.specs.Labelled.{IsPolicyLabel, HoldsLabels}
 use Rattle.lb_alter.specs.Named.{AreDifferent, are_different, IfGiven, HasTable, HasPolicy, HoldsSomething, GrantsSomething}
-use Rattle.lb_alter.specs.Refusing.{Changed, OrRefused, ◌>>=◌, ◌>>◌, when, found, owner, secadm}
+use Rattle.lb_alter.specs.Refusing.{Changed, ◌>>◌, when, found, owner, secadm}
+use Rattle.lb_cat.specs.OrRefused.{OrRefused, ◌>>=◌}
 use Rattle.lb_alter.specs.Sound.{IsSound}
 use Rattle.lb_alter.specs.Steady.{IsSteady}
-use Rattle.lb_alter.specs.Stored.{Checks}
+use Rattle.lb_alter.specs.Stored.{StoredRules}
 use Rattle.lb_alter.proofs.SoundUsers.{UserIsSound, LeavesSound, test_sound, grants_sound, revokes_sound, user_sound, all_put, all_filter, all_found, different_put, and_left, and_right, not_so, both}
 use Rattle.lb_alter.proofs.Untouched.{or_left, or_right, named_there}
 
@@ -65,7 +66,7 @@ module _ {R : Type 0} where
 
 -- ---- blocks
 
-module _ (K : Checks) where
+module _ (K : StoredRules) where
   pub found_then : {A : Type 0} (n : List ℕ) (o : Option A) (f : A → OrRefused Changed) → ((x : A) → o ≡ Some x → LeavesSound K (f x)) → LeavesSound K (found n o >>= f)
   found_then n None f h = record { sound = λ d e. absurd cc }
   found_then n (Some x) f h = h x refl
@@ -91,7 +92,7 @@ table_there C n t e = subst (HasTable C) (sym (named_there (λ (x : Table). x.na
 label_there : (o : Option Policy) (p : Policy) (l : List ℕ) (x : LabelRec) → o ≡ Some p → label_named p l ≡ Some x → has_label o l ≡ true
 label_there o p l x e h = subst (λ (z : Option Policy). has_label z l ≡ true) (sym e) (is_there (label_named p l) x h)
 
-module _ (K : Checks) (steady : IsSteady K) (C : Cat) (T : Tables) (s : IsSound K C) where
+module _ (K : StoredRules) (steady : IsSteady K) (C : Cat) (T : Tables) (s : IsSound K C) where
   -- ---- privileges
 
   pub with_privileges_sound : (n : List ℕ) (p : Privileges) → HasTable C n → (u : User) → UserIsSound C u → UserIsSound C (with_granted n p u)

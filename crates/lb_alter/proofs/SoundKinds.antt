@@ -21,13 +21,14 @@ use Rattle.lb_alter.specs.ChangeGrant.{create_role, has_role_of, the_role, drop_
 use Rattle.lb_alter.specs.ChangeLabel.{user_name}
 use Rattle.lb_alter.specs.ChangePolicy.{kind_of_definition, elements_of, with_elements, create_component, policy_name, has_component, drop_component_of, components_refusal, definition_of, definition_named, new_policy, create_policy}
 use Rattle.lb_alter.specs.ChangeTable.{has_label, policy_of}
-use Rattle.lb_alter.specs.Deps.{in_table, policy_of_table, components_of}
+use Rattle.lb_alter.specs.Deps.{in_table, policy_name_of, components_of}
 use Rattle.lb_alter.specs.Labelled.{IsPolicyLabel, HoldsLabels, StandsUnder}
 use Rattle.lb_alter.specs.Named.{AreDifferent, IfGiven, HasTable, HasPolicy, HasComponent, HasRole, HasFoldedNames}
-use Rattle.lb_alter.specs.Refusing.{in_use, OrRefused, ◌>>=◌, when, earliest, secadm, done}
+use Rattle.lb_alter.specs.Refusing.{in_use, when, earliest, secadm, done}
+use Rattle.lb_cat.specs.OrRefused.{OrRefused, ◌>>=◌}
 use Rattle.lb_alter.specs.Sound.{IsSound, IsWellMade}
 use Rattle.lb_alter.specs.Steady.{IsSteady}
-use Rattle.lb_alter.specs.Stored.{Checks, mentioned_in}
+use Rattle.lb_alter.specs.Stored.{StoredRules, mentioned_in}
 use Rattle.lb_alter.proofs.MadeComponents.{IsWell, made_well}
 use Rattle.lb_alter.proofs.SoundGrants.{different_filter, found_then}
 use Rattle.lb_alter.proofs.SoundParts.{Stands, stored_together, TableIsSound, PolicyIsSound, Parts, apart, together, Reads, reads_kept, Sources, folded_of, source_stands}
@@ -91,10 +92,10 @@ module _ {R : Type 0} (name : R → List ℕ) where
 
 -- ---- what a sound catalogue has
 
-pub sources_stand : {K : Checks} (C : Cat) (t : Table) → TableIsSound K C t → AllByRecursion (Stands C) (mentioned_in t)
+pub sources_stand : {K : StoredRules} (C : Cat) (t : Table) → TableIsSound K C t → AllByRecursion (Stands C) (mentioned_in t)
 sources_stand C t h = all_follow (Sources C t.name) (Stands C) (source_stands C t.name) (mentioned_in t) (stored_together (Sources C t.name) t h.permissions h.masks)
 
-module _ (K : Checks) (C : Cat) (p : Parts K C) where
+module _ (K : StoredRules) (C : Cat) (p : Parts K C) where
   pub stored_there : (n : List ℕ) → AllByRecursion (Stands C) (in_table (table_named C n))
   stored_there n =
       elim (table_named C n) as (λ o. table_named C n ≡ o → AllByRecursion (Stands C) (in_table o)) [
@@ -102,9 +103,9 @@ module _ (K : Checks) (C : Cat) (p : Parts K C) where
         | Some t ↦ λ e. let h : TableIsSound K C t = all_found (TableIsSound K C) _ C.tables t p.tables e in sources_stand C t h
       ] refl
 
-  pub policy_there : (n : List ℕ) → IfGiven (HasPolicy C) (policy_of_table (table_named C n))
+  pub policy_there : (n : List ℕ) → IfGiven (HasPolicy C) (policy_name_of (table_named C n))
   policy_there n =
-      elim (table_named C n) as (λ o. table_named C n ≡ o → IfGiven (HasPolicy C) (policy_of_table o)) [
+      elim (table_named C n) as (λ o. table_named C n ≡ o → IfGiven (HasPolicy C) (policy_name_of o)) [
         | None ↦ λ _. tt
         | Some t ↦ λ e. let h : TableIsSound K C t = all_found (TableIsSound K C) _ C.tables t p.tables e in h.policy
       ] refl
@@ -155,7 +156,7 @@ role_without m n off (x ∷ xs) h =
       ] h
     ] refl
 
-module _ (K : Checks) (steady : IsSteady K) (C : Cat) (T : Tables) (s : IsSound K C) where
+module _ (K : StoredRules) (steady : IsSteady K) (C : Cat) (T : Tables) (s : IsSound K C) where
   -- the same but for the roles
   with_roles_parts : (rs : List RoleRec) → AreDifferent (map (λ r. r.name) rs) → AllByRecursion (λ (u : User). AllByRecursion (HasRole (record C { roles = rs })) u.roles) C.users → IsSound K (record C { roles = rs })
   with_roles_parts rs d h =

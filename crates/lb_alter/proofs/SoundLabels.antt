@@ -31,7 +31,7 @@ use Rattle.lb_alter.specs.Named.{AreDifferent, are_different, IfGiven, HasPolicy
 use Rattle.lb_alter.specs.Refusing.{in_use, when, secadm}
 use Rattle.lb_alter.specs.Sound.{IsSound}
 use Rattle.lb_alter.specs.Steady.{StaysNamed, IsSteady}
-use Rattle.lb_alter.specs.Stored.{Checks, mentioned_in, calls_label}
+use Rattle.lb_alter.specs.Stored.{StoredRules, mentioned_in, calls_label}
 use Rattle.lb_alter.proofs.SoundGrants.{different_filter, found_then}
 use Rattle.lb_alter.proofs.SoundKinds.{none_found, not_in_use, is_new}
 use Rattle.lb_alter.proofs.SoundParts.{InPermissions, InMasks, stored_apart, TableIsSound, PolicyIsSound, Parts, apart, together, Reads, stored_moves, Sources}
@@ -86,7 +86,7 @@ parts_fit C xs (n ∷ ns) (d ∷ ds) h = (part_fits d.kind (is_named d (listed_f
 
 -- ---- a policy with other labels
 
-module _ (K : Checks) (steady : IsSteady K) (C : Cat) (T : Tables) (s : IsSound K C) (p : Policy) (there : policy_named C p.name ≡ Some p) (ls : List LabelRec) where
+module _ (K : StoredRules) (steady : IsSteady K) (C : Cat) (T : Tables) (s : IsSound K C) (p : Policy) (there : policy_named C p.name ≡ Some p) (ls : List LabelRec) where
   abbrev pub Other : Policy
   Other = record p { labels = ls }
 
@@ -174,7 +174,7 @@ module _ (K : Checks) (steady : IsSteady K) (C : Cat) (T : Tables) (s : IsSound 
 pub by_own_policy : (C : Cat) (n : List ℕ) (p : Policy) → policy_named C n ≡ Some p → policy_named C p.name ≡ Some p
 by_own_policy C n p e = subst (λ (m : List ℕ). policy_named C m ≡ Some p) (sym (named_there (λ (x : Policy). x.name) n C.policies p e)) e
 
-module _ (K : Checks) (steady : IsSteady K) (C : Cat) (T : Tables) (s : IsSound K C) where
+module _ (K : StoredRules) (steady : IsSteady K) (C : Cat) (T : Tables) (s : IsSound K C) where
   pub create_label_sound : (user : List ℕ) (l : LabelName) (xs : List LabelPart) → LeavesSound K (create_label C T user l xs)
   create_label_sound user l xs =
       test_sound K (secadm C user) _ (λ _. found_then K l.policy (policy_named C l.policy) _ (λ p e. test_sound K (when (is_some (label_named p l.label)) (refusals.Exists l.label)) _ (λ new. test_sound K (parts_refusal p [] xs) _
@@ -196,7 +196,7 @@ pub any_none : {A : Type 0} (test : A → Bool) (xs : List A) → list_any test 
 any_none test [] h = tt
 any_none test (x ∷ xs) h = (or_left _ _ h, any_none test xs (or_right (test x) _ h))
 
-module _ (K : Checks) (steady : IsSteady K) (C : Cat) (T : Tables) (s : IsSound K C) (l : LabelName) (p : Policy) (e : policy_named C l.policy ≡ Some p) where
+module _ (K : StoredRules) (steady : IsSteady K) (C : Cat) (T : Tables) (s : IsSound K C) (l : LabelName) (p : Policy) (e : policy_named C l.policy ≡ Some p) where
   fewer : List LabelRec
   fewer = without (is_label l.label) p.labels
 
@@ -277,7 +277,7 @@ module _ (K : Checks) (steady : IsSteady K) (C : Cat) (T : Tables) (s : IsSound 
       (all_filter (λ (x : LabelRec). IsLabel p.shape x.parts.items) (λ x. not (is_label l.label x)) p.labels old.shape.labels)
       (tables_left C.tables g q.tables) (users_left C.users f q.users)
 
-module _ (K : Checks) (steady : IsSteady K) (C : Cat) (T : Tables) (s : IsSound K C) where
+module _ (K : StoredRules) (steady : IsSteady K) (C : Cat) (T : Tables) (s : IsSound K C) where
   pub drop_label_sound : (user : List ℕ) (l : LabelName) → LeavesSound K (drop_label C T user l)
   drop_label_sound user l =
       test_sound K (secadm C user) _ (λ _. found_then K l.policy (policy_named C l.policy) _ (λ p e. found_then K l.label (label_named p l.label) _

@@ -16,13 +16,14 @@ use Rattle.lb_rows.specs.Tables.{Tables}
 use Rattle.lb_rows.specs.Lists.{put}
 use Rattle.lb_cat.specs.Catalog.{Cat, Table, table_named, is_table, is_column, is_mask, put_table}
 use Rattle.lb_names.specs.Mentions.{in_expr, tables_in, policies_in}
-use Rattle.lb_alter.specs.ChangeControl.{correlation_of, has_permission, source_refusal, is_replaced, takes_mask_name, mask_name, other_mask, new_mask, with_mask, create_mask, is_bad_source}
+use Rattle.lb_alter.specs.ChangeControl.{has_permission, source_refusal, is_replaced, takes_mask_name, mask_name, other_mask, new_mask, with_mask, create_mask, is_bad_source}
+use Rattle.lb_names.specs.Sights.{correlation}
 use Rattle.lb_alter.specs.Columns.{IsPlace, has_mask_twice}
 use Rattle.lb_alter.specs.Named.{HasTable, HasPolicy, IsGoodSource}
 use Rattle.lb_alter.specs.Refusing.{exists_already, when, secadm}
 use Rattle.lb_alter.specs.Sound.{IsSound}
 use Rattle.lb_alter.specs.Steady.{IsWider, IsSteady}
-use Rattle.lb_alter.specs.Stored.{Checks}
+use Rattle.lb_alter.specs.Stored.{StoredRules}
 use Rattle.lb_alter.specs.Valid.{TypesAt, IsValidMask, called, KeepsMaskRules}
 use Rattle.lb_alter.proofs.SoundAlters.{by_own_name}
 use Rattle.lb_alter.proofs.SoundColumns.{none_already}
@@ -137,7 +138,7 @@ module _ (n : List ℕ) (r : MaskRec) where
             rw one (twice_put ms (or_right (list_any (λ o. o.column == m.column) ms) _ h) same.1 off.1)
       ] refl
 
-module _ (K : Checks) (steady : IsSteady K) (C : Cat) (T : Tables) (s : IsSound K C) (d : MaskDef) (t : Table) (e : table_named C d.on.table ≡ Some t) (column : ℕ) (place : column < length t.columns)
+module _ (K : StoredRules) (steady : IsSteady K) (C : Cat) (T : Tables) (s : IsSound K C) (d : MaskDef) (t : Table) (e : table_named C d.on.table ≡ Some t) (column : ℕ) (place : column < length t.columns)
     (names_hold : K.mask_names C d.on d.value ≡ None) (types_hold : K.mask_types C d.on d.column d.value ≡ None) (first_so : position (is_column d.column) t.columns ≡ Some column)
     (taken : AllByRecursion (λ (x : Table). takes_mask_name d column x ≡ false) C.tables) (own : takes_mask_name d column t ≡ false) (alone : other_mask d.name column t ≡ None)
     (good : AllByRecursion (IsGoodSource C t.name) (tables_in (in_expr d.value))) where
@@ -203,15 +204,15 @@ module _ (K : Checks) (steady : IsSteady K) (C : Cat) (T : Tables) (s : IsSound 
       (named_from (IsSource C t.name) (HasPolicy C) (in_expr d.value) (all_both (HasTable C) (IsGoodSource C t.name) (tables_in (in_expr d.value)) h.0 good) h.1))
 
   first : MaskRec
-  first = record { name = []; column = column; correlation = correlation_of d.on; value = K.qualified_mask C d.on d.value; enabled = true }
+  first = record { name = []; column = column; correlation = correlation d.on; value = K.qualified_mask C d.on d.value; enabled = true }
 
   is_valid_there : IsValidMask K After t (new_mask K C column d)
   unfolding first
   is_valid_there =
       let q : IsValidMask K C t first = steady.qualifies_mask C t d.on column found_at.column d.value e (subst (λ (n : List ℕ). position (is_column n) t.columns ≡ Some column) (sym its_column) first_so) found_at.there keeps in
       let ty : TypesAt K C t first (Some found_at.column) = subst (TypesAt K C t first) found_at.there q.types in
-      let w : KeepsMaskRules K After (called t (correlation_of d.on)) found_at.column.name (K.qualified_mask C d.on d.value) =
-      steady.widens_mask C t Masked (called t (correlation_of d.on)) found_at.column.name (K.qualified_mask C d.on d.value) its_own wider q.qualified (record { names = q.names; types = ty.0 }) in
+      let w : KeepsMaskRules K After (called t (correlation d.on)) found_at.column.name (K.qualified_mask C d.on d.value) =
+      steady.widens_mask C t Masked (called t (correlation d.on)) found_at.column.name (K.qualified_mask C d.on d.value) its_own wider q.qualified (record { names = q.names; types = ty.0 }) in
       record { names = w.names; types = subst (TypesAt K After t (new_mask K C column d)) (sym found_at.there) (w.types, ty.1); qualified = q.qualified }
 
   same_column : (ms : List MaskRec) → AllByRecursion (λ (m : MaskRec). (is_mask d.name m && not (is_replaced d column t m)) ≡ false) ms → AllByRecursion (λ (m : MaskRec). is_mask d.name m ≡ true → (m.column == column) ≡ true) ms
@@ -235,7 +236,7 @@ module _ (K : Checks) (steady : IsSteady K) (C : Cat) (T : Tables) (s : IsSound 
         valid_masks = all_put (IsValidMask K After t) (is_mask d.name) (new_mask K C column d) t.masks h.stored.masks is_valid_there;
       }) h))
 
-module _ (K : Checks) (steady : IsSteady K) (C : Cat) (T : Tables) (s : IsSound K C) where
+module _ (K : StoredRules) (steady : IsSteady K) (C : Cat) (T : Tables) (s : IsSound K C) where
   pub create_mask_sound : (user : List ℕ) (d : MaskDef) → LeavesSound K (create_mask K C T user d)
   create_mask_sound user d =
       test_sound K (secadm C user) _ (λ _. found_then K d.on.table (table_named C d.on.table) _ (λ t e. found_then K d.column (position (is_column d.column) t.columns) _

@@ -12,13 +12,13 @@ use Rattle.lb_cat.specs.declared.catalog.MaskRec.{MaskRec}
 use Rattle.lb_cat.specs.Catalog.{Cat, Table, Policy, User, table_named, policy_named, component_named}
 use Rattle.lb_names.specs.Mentions.{Mention, Mentions, table, policy, label, tables_in, policies_in, in_cond, in_expr}
 use Rattle.lb_alter.specs.Columns.{HasItsColumns, HasOneLabelColumn, HasFewColumns}
-use Rattle.lb_alter.specs.Deps.{in_table, in_tables, tables_for, policy_of_table, is_key_name, policies_for, components_of, components_for}
+use Rattle.lb_alter.specs.Deps.{in_table, in_tables, tables_for, policy_name_of, is_key_name, policies_for, components_of, components_for}
 use Rattle.lb_alter.specs.Frame.{SameRecord, SameOn}
 use Rattle.lb_alter.specs.Labelled.{LabelsBelong, HeldLabelsAreThere, HasItsShape}
 use Rattle.lb_alter.specs.Named.{AreDifferent, IfGiven, HasTable, HasPolicy, HasOneOfEachName, TableNamesRecords, PolicyNamesRecords, UserNamesRecords, HasDifferentLabels, HasOneEntryEach, HasNoEmptyEntry, HasFoldedNames, IsGoodSource, ReadsGoodSources}
 use Rattle.lb_alter.specs.Sound.{IsSound, HasFewComponents, IsWellMade}
 use Rattle.lb_alter.specs.Steady.{stored_deps, IsSteady}
-use Rattle.lb_alter.specs.Stored.{Checks, Stored, stored_in, stored_name, stored_permission, stored_mask, mentions_of, mentioned_in}
+use Rattle.lb_alter.specs.Stored.{StoredRules, Stored, stored_in, stored_name, stored_permission, stored_mask, mentions_of, mentioned_in}
 use Rattle.lb_alter.specs.Valid.{IsValid, TypesAt, IsValidMask, StoresValid, called, KeepsRules, KeepsMaskRules}
 use Rattle.lb_alter.proofs.SoundUsers.{UserIsSound, all_append, all_filter, all_follow, once_all}
 use Rattle.lb_alter.proofs.Steady.{all_front, all_after}
@@ -137,7 +137,7 @@ names_flat (t ∷ ts) =
 
 -- ---- record by record
 
-pub record TableIsSound (K : Checks) (C : Cat) (t : Table) : Type 0 where
+pub record TableIsSound (K : StoredRules) (C : Cat) (t : Table) : Type 0 where
   pub policy : IfGiven (HasPolicy C) t.policy
   pub permissions : InPermissions (Sources C t.name) t.permissions
   pub masks : InMasks (Sources C t.name) t.masks
@@ -154,7 +154,7 @@ pub record PolicyIsSound (C : Cat) (p : Policy) : Type 0 where
   pub labels : HasDifferentLabels p
   pub shape : HasItsShape C p
 
-pub record Parts (K : Checks) (C : Cat) : Type 0 where
+pub record Parts (K : StoredRules) (C : Cat) : Type 0 where
   pub one_each : HasOneOfEachName C
   pub few : length C.tables ≤ 64
   pub made : AllByRecursion IsWellMade C.components
@@ -163,7 +163,7 @@ pub record Parts (K : Checks) (C : Cat) : Type 0 where
   pub policies : AllByRecursion (PolicyIsSound C) C.policies
   pub users : AllByRecursion (UserIsSound C) C.users
 
-module _ (K : Checks) (C : Cat) where
+module _ (K : StoredRules) (C : Cat) where
   tables_apart : (ts : List Table) → AllByRecursion (TableNamesRecords C) ts → AllByRecursion (ReadsGoodSources C) ts → AllByRecursion HasItsColumns ts → AllByRecursion HasFewColumns ts → AllByRecursion HasOneLabelColumn ts
       → AllByRecursion (LabelsBelong C) ts → AllByRecursion (StoresValid K C) ts → AllByRecursion (TableIsSound K C) ts
   tables_apart [] n g c f l b s = tt
@@ -240,11 +240,11 @@ module _ (K : Checks) (C : Cat) where
 -- ---- stored conditions from one catalogue to another
 
 -- conditions on tables of this kind, which name only such things, stay right
-pub record Reads (K : Checks) (C D : Cat) (Own : List ℕ → Type 0) (G : Mention → Type 0) : Type 0 where
+pub record Reads (K : StoredRules) (C D : Cat) (Own : List ℕ → Type 0) (G : Mention → Type 0) : Type 0 where
   pub condition : (on : Tab) (c : Cond) → Own on.table → AllByRecursion G (in_cond c) → K.are_qualified c ≡ true → KeepsRules K C on c → KeepsRules K D on c
   pub mask : (on : Tab) (column : List ℕ) (e : Expr) → Own on.table → AllByRecursion G (in_expr e) → K.are_qualified_in e ≡ true → KeepsMaskRules K C on column e → KeepsMaskRules K D on column e
 
-module _ (K : Checks) (C D : Cat) (Own : List ℕ → Type 0) (G : Mention → Type 0) (r : Reads K C D Own G) (t : Table) (own : Own t.name) where
+module _ (K : StoredRules) (C D : Cat) (Own : List ℕ → Type 0) (G : Mention → Type 0) (r : Reads K C D Own G) (t : Table) (own : Own t.name) where
   permissions_move : (ps : List PermissionRec) → InPermissions G ps → AllByRecursion (IsValid K C t) ps → AllByRecursion (IsValid K D t) ps
   permissions_move [] g h = tt
   permissions_move (p ∷ ps) g h =
@@ -293,7 +293,7 @@ module _ (C D : Cat) (T P Q : List ℕ → Type 0)
     (policies : (n : List ℕ) → P n → policy_named D n ≡ policy_named C n)
     (components : (n : List ℕ) → Q n → component_named D n ≡ component_named C n)
     (stored : (n : List ℕ) → T n → AllByRecursion (Named T P) (in_table (table_named C n)))
-    (owned : (n : List ℕ) → T n → IfGiven P (policy_of_table (table_named C n)))
+    (owned : (n : List ℕ) → T n → IfGiven P (policy_name_of (table_named C n)))
     (made : (n : List ℕ) → P n → AllByRecursion Q (components_of (policy_named C n))) where
   after_named : (ns : List (List ℕ)) → AllByRecursion T ns → AllByRecursion (Named T P) (in_tables C ns)
   after_named ns h = all_flat T (Named T P) (λ n. in_table (table_named C n)) stored ns h
@@ -305,7 +305,7 @@ module _ (C D : Cat) (T P Q : List ℕ → Type 0)
 
   policies_for_named : (ms : Mentions) → AllByRecursion (Named T P) ms → AllByRecursion P (policies_for C ms)
   policies_for_named ms h =
-      all_append P _ _ (all_given T P (λ n. policy_of_table (table_named C n)) owned (tables_for C ms) (tables_for_named ms h))
+      all_append P _ _ (all_given T P (λ n. policy_name_of (table_named C n)) owned (tables_for C ms) (tables_for_named ms h))
       (all_filter P is_key_name _ (all_append P (policies_in ms) _ (named_policies T P ms h) (named_policies T P (in_tables C (tables_in ms)) (after_named (tables_in ms) (named_tables T P ms h)))))
 
   pub deps_kept : (on : Tab) (ms : Mentions) → T on.table → AllByRecursion (Named T P) ms → SameOn (stored_deps C on ms) C D
@@ -317,7 +317,7 @@ module _ (C D : Cat) (T P Q : List ℕ → Type 0)
       (all_map Q (SameRecord C D) (λ n. keys.Component n) components (components_for C (table on.table ∷ ms))
       (all_flat P Q (λ n. components_of (policy_named C n)) made (policies_for C (table on.table ∷ ms)) (policies_for_named (table on.table ∷ ms) all)))))
 
-  pub reads_kept : (K : Checks) → IsSteady K → HasFoldedNames C → HasFoldedNames D → Reads K C D T (Named T P)
+  pub reads_kept : (K : StoredRules) → IsSteady K → HasFoldedNames C → HasFoldedNames D → Reads K C D T (Named T P)
   reads_kept K steady f g = record {
     condition = λ on c own h q r. steady.reads C D on c f g (deps_kept on (in_cond c) own h) r;
     mask = λ on ty e own h q r. steady.reads_mask C D on ty e f g (deps_kept on (in_expr e) own h) r;

@@ -12,12 +12,13 @@ use Rattle.lb_rows.specs.Tables.{Tables}
 use Rattle.lb_rows.specs.Lists.{put}
 use Rattle.lb_cat.specs.Catalog.{Cat, Table, table_named, is_table, is_permission, put_table}
 use Rattle.lb_names.specs.Mentions.{in_cond, tables_in, policies_in}
-use Rattle.lb_alter.specs.ChangeControl.{correlation_of, has_permission, has_mask, source_refusal, takes_permission_name, new_permission, with_permission, create_permission, bad_source_of, is_bad_source}
+use Rattle.lb_alter.specs.ChangeControl.{has_permission, has_mask, source_refusal, takes_permission_name, new_permission, with_permission, create_permission, bad_source_of, is_bad_source}
+use Rattle.lb_names.specs.Sights.{correlation}
 use Rattle.lb_alter.specs.Named.{HasTable, HasPolicy, IsGoodSource}
 use Rattle.lb_alter.specs.Refusing.{when, secadm}
 use Rattle.lb_alter.specs.Sound.{IsSound}
 use Rattle.lb_alter.specs.Steady.{IsSteady, IsWider}
-use Rattle.lb_alter.specs.Stored.{Checks}
+use Rattle.lb_alter.specs.Stored.{StoredRules}
 use Rattle.lb_alter.specs.Valid.{IsValid, called, KeepsRules}
 use Rattle.lb_alter.proofs.SoundAlters.{by_own_name}
 use Rattle.lb_alter.proofs.SoundGrants.{found_then}
@@ -41,7 +42,7 @@ not_both true false false h i = refl
 not_both false b true h i = absurd cc
 not_both false b false h i = refl
 
-module _ (K : Checks) (steady : IsSteady K) (C : Cat) (T : Tables) (s : IsSound K C) (d : PermissionDef) (t : Table) (e : table_named C d.on.table ≡ Some t)
+module _ (K : StoredRules) (steady : IsSteady K) (C : Cat) (T : Tables) (s : IsSound K C) (d : PermissionDef) (t : Table) (e : table_named C d.on.table ≡ Some t)
     (keeps : KeepsRules K C d.on d.condition) (taken : AllByRecursion (λ (x : Table). takes_permission_name d x ≡ false) C.tables) (own : takes_permission_name d t ≡ false)
     (good : AllByRecursion (IsGoodSource C t.name) (tables_in (in_cond d.condition))) where
   p : PermissionRec
@@ -91,9 +92,9 @@ module _ (K : Checks) (steady : IsSteady K) (C : Cat) (T : Tables) (s : IsSound 
 
   is_valid_there : IsValid K Allowed t (new_permission K C d)
   is_valid_there =
-      let q : IsValid K C t (record { name = []; correlation = correlation_of d.on; condition = K.qualified_condition C d.on d.condition; enabled = true }) = steady.qualifies C t d.on d.condition e keeps in
-      let w : KeepsRules K Allowed (called t (correlation_of d.on)) (K.qualified_condition C d.on d.condition) =
-      steady.widens C t Permitted (called t (correlation_of d.on)) (K.qualified_condition C d.on d.condition) (by_own_name C d.on.table t e) wider q.qualified (record { names = q.names; types = q.types }) in
+      let q : IsValid K C t (record { name = []; correlation = correlation d.on; condition = K.qualified_condition C d.on d.condition; enabled = true }) = steady.qualifies C t d.on d.condition e keeps in
+      let w : KeepsRules K Allowed (called t (correlation d.on)) (K.qualified_condition C d.on d.condition) =
+      steady.widens C t Permitted (called t (correlation d.on)) (K.qualified_condition C d.on d.condition) (by_own_name C d.on.table t e) wider q.qualified (record { names = q.names; types = q.types }) in
       record { names = w.names; types = w.types; qualified = q.qualified }
 
   permitted_sound : IsSound K Allowed
@@ -124,7 +125,7 @@ none_does {A = A} test is (y ∷ ys) x h e =
       | false ↦ λ i. none_does test is ys x h.1 i
     ] e
 
-module _ (K : Checks) (steady : IsSteady K) (C : Cat) (T : Tables) (s : IsSound K C) where
+module _ (K : StoredRules) (steady : IsSteady K) (C : Cat) (T : Tables) (s : IsSound K C) where
   pub create_permission_sound : (user : List ℕ) (d : PermissionDef) → LeavesSound K (create_permission K C T user d)
   create_permission_sound user d =
       test_sound K (secadm C user) _ (λ _. found_then K d.on.table (table_named C d.on.table) _ (λ t e. test_sound K (when (list_any (takes_permission_name d) C.tables) (refusals.Exists d.name)) _

@@ -25,7 +25,7 @@ use Rattle.lb_alter.specs.Named.{AreDifferent, IfGiven, HasTable, HasPolicy, Has
 use Rattle.lb_alter.specs.Refusing.{alters}
 use Rattle.lb_alter.specs.Sound.{IsSound}
 use Rattle.lb_alter.specs.Steady.{IsSameColumn, IsWider, IsSteady}
-use Rattle.lb_alter.specs.Stored.{Checks}
+use Rattle.lb_alter.specs.Stored.{StoredRules}
 use Rattle.lb_alter.specs.Valid.{IsValid, TypesAt, IsValidMask, called}
 use Rattle.lb_alter.proofs.SoundGrants.{is_there}
 use Rattle.lb_alter.proofs.SoundParts.{InPermissions, InMasks, Stands, TableIsSound, PolicyIsSound, Parts, apart, together, table_names, Reads, stored_moves, IsSource, Sources, source_stands}
@@ -247,7 +247,7 @@ sources_follow C D f g l own (policy p) h = g p h
 sources_follow C D f g l own (label p x) h = g p h
 
 -- a table's record in a catalogue in which all that it rests on is still there
-pub table_moves : (K : Checks) (C D : Cat) (Own : List ℕ → Type 0) (G : Mention → Type 0) → Reads K C D Own G → (t : Table) → Own t.name → ((m : Mention) → Stands C m → G m)
+pub table_moves : (K : StoredRules) (C D : Cat) (Own : List ℕ → Type 0) (G : Mention → Type 0) → Reads K C D Own G → (t : Table) → Own t.name → ((m : Mention) → Stands C m → G m)
     → ((n : List ℕ) → HasTable C n → HasTable D n) → ((n : List ℕ) → HasPolicy C n → HasPolicy D n) → ((l : List ℕ) → IsLabelHere C t l → IsLabelHere D t l) → StaysPlain C D → TableIsSound K C t → TableIsSound K D t
 table_moves K C D Own G r t own good f g l q h = record {
   policy = given_follow (HasPolicy C) (HasPolicy D) g t.policy h.policy;
@@ -276,7 +276,7 @@ user_moves C D f u h roles policies labels = record {
 
 -- ---- one table's record
 
-module _ (K : Checks) (C : Cat) (u : Table) where
+module _ (K : StoredRules) (C : Cat) (u : Table) where
   table_stays_there : (n : List ℕ) → HasTable C n → HasTable (put_table u C) n
   table_stays_there n h = there_put (λ (x : Table). x.name) u C.tables n h
 
@@ -336,7 +336,7 @@ module _ {R : Type 0} (name : R → List ℕ) (r : R) where
         | false ↦ let h : length (put (λ y. bytes_eq (name y) (name r)) r xs) ≤ suc (length xs) = one_more xs in omega (arith, h)
       ]
 
-module _ (K : Checks) (steady : IsSteady K) (C : Cat) (T : Tables) (s : IsSound K C) (t u : Table) (there : table_named C t.name ≡ Some t) (same : u.name ≡ t.name) (wider : IsWider t u) where
+module _ (K : StoredRules) (steady : IsSteady K) (C : Cat) (T : Tables) (s : IsSound K C) (t u : Table) (there : table_named C t.name ≡ Some t) (same : u.name ≡ t.name) (wider : IsWider t u) where
   pub wider_reads : Reads K C (put_table u C) Always Always
   wider_reads = record {
     condition = λ on c _ _ q r. steady.widens C t u on c there wider q r;
@@ -376,7 +376,7 @@ nothing_more [] = refl
 nothing_more (c ∷ cs) = nothing_more cs
 
 -- a table of a sound catalogue has a column
-pub some_column : (K : Checks) (C : Cat) → IsSound K C → (n : List ℕ) (t : Table) → table_named C n ≡ Some t → 1 ≤ length t.columns
+pub some_column : (K : StoredRules) (C : Cat) → IsSound K C → (n : List ℕ) (t : Table) → table_named C n ≡ Some t → 1 ≤ length t.columns
 some_column K C s n t e = let h : HasFewColumns t = all_found HasFewColumns (is_table n) C.tables t s.limits.columns e in h.some
 
 -- the table with another control, other privileges of all users, other permissions and masks
@@ -387,7 +387,7 @@ pub refitted_wider : (t : Table) (row column : Bool) (public : Privileges) (ps :
 refitted_wider t row column public ps ms some = record { name = refl; some = some; more = drop (length t.columns) t.columns; same = same_columns t.columns; rest = refl; plain = nothing_more t.columns }
 
 -- what is asked of the other permissions and masks
-pub record Refits (K : Checks) (D : Cat) (t : Table) (ps : List PermissionRec) (ms : List MaskRec) : Type 0 where
+pub record Refits (K : StoredRules) (D : Cat) (t : Table) (ps : List PermissionRec) (ms : List MaskRec) : Type 0 where
   pub permissions : InPermissions (Sources D t.name) ps
   pub masks : InMasks (Sources D t.name) ms
   pub places : AllByRecursion (λ (m : MaskRec). IsPlace t m.column) ms
@@ -395,16 +395,16 @@ pub record Refits (K : Checks) (D : Cat) (t : Table) (ps : List PermissionRec) (
   pub valid : AllByRecursion (IsValid K D t) ps
   pub valid_masks : AllByRecursion (IsValidMask K D t) ms
 
-pub refits_old : (K : Checks) (D : Cat) (t : Table) → TableIsSound K D t → Refits K D t t.permissions t.masks
+pub refits_old : (K : StoredRules) (D : Cat) (t : Table) → TableIsSound K D t → Refits K D t t.permissions t.masks
 refits_old K D t h = record { permissions = h.permissions; masks = h.masks; places = h.columns.masked; once = h.label_columns.masks; valid = h.stored.permissions; valid_masks = h.stored.masks }
 
 -- a mask that is called and says the same is of the same kind
-pub retyped : (K : Checks) (D : Cat) (t u : Table) (m o : MaskRec) → called t m.correlation ≡ called u o.correlation → m.value ≡ o.value → (c : Option ColumnRec) → TypesAt K D t m c → TypesAt K D u o c
+pub retyped : (K : StoredRules) (D : Cat) (t u : Table) (m o : MaskRec) → called t m.correlation ≡ called u o.correlation → m.value ≡ o.value → (c : Option ColumnRec) → TypesAt K D t m c → TypesAt K D u o c
 retyped K D t u m o e f None h = absurd h
 retyped K D t u m o e f (Some c) h =
     (subst (λ (x : Tab). K.mask_types D x c.name o.value ≡ None) e (subst (λ (v : Expr). K.mask_types D (called t m.correlation) c.name v ≡ None) f h.0), h.1)
 
-module _ (K : Checks) (D : Cat) (t : Table) (row column : Bool) (public : Privileges) (ps : List PermissionRec) (ms : List MaskRec) where
+module _ (K : StoredRules) (D : Cat) (t : Table) (row column : Bool) (public : Privileges) (ps : List PermissionRec) (ms : List MaskRec) where
   key_refitted : (key : Option ℕ) → HasKeyColumn t key → HasKeyColumn (refitted t row column public ps ms) key
   key_refitted None h = tt
   key_refitted (Some at) h = record { place = h.place; not_null = h.not_null }
@@ -424,7 +424,7 @@ module _ (K : Checks) (D : Cat) (t : Table) (row column : Bool) (public : Privil
     };
   }
 
-module _ (K : Checks) (steady : IsSteady K) (C : Cat) (T : Tables) (s : IsSound K C) (t : Table) (there : table_named C t.name ≡ Some t) (row column : Bool) (public : Privileges) where
+module _ (K : StoredRules) (steady : IsSteady K) (C : Cat) (T : Tables) (s : IsSound K C) (t : Table) (there : table_named C t.name ≡ Some t) (row column : Bool) (public : Privileges) where
   -- permissions and masks as given, of which there are no more names
   pub refits_sound : (ps : List PermissionRec) (ms : List MaskRec) → Names Always (map (λ p. p.name) ps ++ map (λ m. m.name) ms) (table_names t)
       → (TableIsSound K (put_table (refitted t row column public ps ms) C) t → Refits K (put_table (refitted t row column public ps ms) C) t ps ms)

@@ -22,10 +22,11 @@ use Rattle.lb_alter.specs.Deps.{deps_of, tables_for, policies_for, components_fo
 use Rattle.lb_alter.specs.Frame.{SameRecord, SameOn}
 use Rattle.lb_alter.specs.Labelled.{ColumnBelongs, LabelsBelong, HoldsLabels, HeldLabelsAreThere, HasItsShape}
 use Rattle.lb_alter.specs.Named.{AreDifferent, are_different, TableNamesRecords, UserNamesRecords, HasRole, HasOneEntryEach, HasNoEmptyEntry, HasFoldedNames}
-use Rattle.lb_alter.specs.Refusing.{Changed, OrRefused, ◌>>◌, when, secadm, done}
+use Rattle.lb_alter.specs.Refusing.{Changed, ◌>>◌, when, secadm, done}
+use Rattle.lb_cat.specs.OrRefused.{OrRefused}
 use Rattle.lb_alter.specs.Sound.{IsSound}
 use Rattle.lb_alter.specs.Steady.{IsSteady, stored_deps}
-use Rattle.lb_alter.specs.Stored.{Checks}
+use Rattle.lb_alter.specs.Stored.{StoredRules}
 use Rattle.lb_alter.specs.Valid.{IsValid, TypesAt, IsValidMask, StoresValid, called, KeepsRules, KeepsMaskRules}
 use Rattle.lb_alter.proofs.Untouched.{or_left, or_right, turned}
 
@@ -119,7 +120,7 @@ deps_all P t p c C ms = once_all P _
 
 -- ---- one user's record
 
-module _ (K : Checks) (steady : IsSteady K) (C : Cat) where
+module _ (K : StoredRules) (steady : IsSteady K) (C : Cat) where
   same_on : (u : User) (on : Tab) (ms : Mentions) → SameOn (stored_deps C on ms) C (put_user u C)
   same_on u on ms = deps_all (SameRecord C (put_user u C)) (λ n. refl) (λ n. refl) (λ n. refl) C (table on.table ∷ ms)
 
@@ -163,7 +164,7 @@ pub names_stay : (C : Cat) (u v : User) → UserNamesRecords C v → UserNamesRe
 names_stay C u v h = record { roles = h.roles; granted = h.granted; held = h.held }
 
 -- a user's record that is itself sound may be put
-pub put_user_sound : (K : Checks) → IsSteady K → (C : Cat) (u : User) → UserIsSound C u → IsSound K C → IsSound K (put_user u C)
+pub put_user_sound : (K : StoredRules) → IsSteady K → (C : Cat) (u : User) → UserIsSound C u → IsSound K C → IsSound K (put_user u C)
 put_user_sound K steady C u h s = record {
   one_each = record {
     tables = s.one_each.tables;
@@ -192,7 +193,7 @@ put_user_sound K steady C u h s = record {
 }
 
 -- the records of users are sound, and so is a new one
-pub found_sound : (K : Checks) (C : Cat) (n : List ℕ) (u : User) → IsSound K C → find (is_user n) C.users ≡ Some u → UserIsSound C u
+pub found_sound : (K : StoredRules) (C : Cat) (n : List ℕ) (u : User) → IsSound K C → find (is_user n) C.users ≡ Some u → UserIsSound C u
 found_sound K C n u s e = record {
   records = all_found (UserNamesRecords C) (is_user n) C.users u s.records.users e;
   one = all_found HasOneEntryEach (is_user n) C.users u s.names.users e;
@@ -200,7 +201,7 @@ found_sound K C n u s e = record {
   entries = all_found HasNoEmptyEntry (is_user n) C.users u s.entries e;
 }
 
-pub user_sound : (K : Checks) (C : Cat) (n : List ℕ) → IsSound K C → UserIsSound C (user_or_new C n)
+pub user_sound : (K : StoredRules) (C : Cat) (n : List ℕ) → IsSound K C → UserIsSound C (user_or_new C n)
 user_sound K C n s =
     elim (find (is_user n) C.users) as (λ o. find (is_user n) C.users ≡ o → UserIsSound C (unwrap_or o (no_user n))) [
       | None ↦ λ _. record { records = record { roles = tt; granted = tt; held = tt }; one = record { privileges = refl; held = refl }; held = tt; entries = record { privileges = tt; held = tt } }
@@ -210,21 +211,21 @@ user_sound K C n s =
 -- ---- changes
 
 -- an accepted statement leaves a sound catalogue
-pub record LeavesSound (K : Checks) (m : OrRefused Changed) : Type 0 where
+pub record LeavesSound (K : StoredRules) (m : OrRefused Changed) : Type 0 where
   pub sound : (d : Changed) → m ≡ Ok d → IsSound K d.cat
 
-pub test_sound : (K : Checks) (o : Option Refusal) (rest : OrRefused Changed) → (o ≡ None → LeavesSound K rest) → LeavesSound K (o >> rest)
+pub test_sound : (K : StoredRules) (o : Option Refusal) (rest : OrRefused Changed) → (o ≡ None → LeavesSound K rest) → LeavesSound K (o >> rest)
 test_sound K None rest h = h refl
 test_sound K (Some r) rest h = record { sound = λ d e. absurd cc }
 
-pub done_sound : (K : Checks) (C : Cat) (T : Tables) (touched : List Key) → IsSound K C → LeavesSound K (done C T touched)
+pub done_sound : (K : StoredRules) (C : Cat) (T : Tables) (touched : List Key) → IsSound K C → LeavesSound K (done C T touched)
 done_sound K C T touched s = record { sound = λ d e. subst (λ (x : OrRefused Changed). Of K x) e s }
   where
-    Of : Checks → OrRefused Changed → Type 0
+    Of : StoredRules → OrRefused Changed → Type 0
     Of K (Ok d) = IsSound K d.cat
     Of K (Err r) = Unit {0}
 
-module _ (K : Checks) (steady : IsSteady K) (C : Cat) (T : Tables) (s : IsSound K C) where
+module _ (K : StoredRules) (steady : IsSteady K) (C : Cat) (T : Tables) (s : IsSound K C) where
   pub grants_sound : (n : List ℕ) (f : User → User) → ((u : User) → UserIsSound C u → UserIsSound C (f u)) → LeavesSound K (grants C T n f)
   grants_sound n f h = done_sound K (put_user (f (user_or_new C n)) C) T (keys.User n ∷ []) (put_user_sound K steady C (f (user_or_new C n)) (h (user_or_new C n) (user_sound K C n s)) s)
 

@@ -6,10 +6,11 @@ use Rattle.lb_rows.specs.Tables.{Tables}
 use Rattle.lb_cat.specs.Catalog.{Cat}
 use Rattle.lb_alter.specs.Change.{attempt}
 use Rattle.lb_alter.specs.Laws.{StaysSound, IsAsRead}
-use Rattle.lb_alter.specs.Refusing.{Changed, OrRefused, settled}
+use Rattle.lb_alter.specs.Refusing.{Changed, settled}
+use Rattle.lb_cat.specs.OrRefused.{OrRefused}
 use Rattle.lb_alter.specs.Sound.{IsSound}
 use Rattle.lb_alter.specs.Steady.{IsSteady}
-use Rattle.lb_alter.specs.Stored.{Checks}
+use Rattle.lb_alter.specs.Stored.{StoredRules}
 use Rattle.lb_alter.proofs.SoundAlters.{activate_sound, grant_privileges_sound, revoke_privileges_sound, switch_permission_sound, switch_mask_sound, drop_permission_sound, drop_mask_sound}
 use Rattle.lb_alter.proofs.SoundColumns.{add_policy_sound, add_column_sound, secure_column_sound, unsecure_column_sound}
 use Rattle.lb_alter.proofs.SoundCreates.{create_table_sound}
@@ -21,11 +22,11 @@ use Rattle.lb_alter.proofs.SoundMasks.{create_mask_sound}
 use Rattle.lb_alter.proofs.SoundStored.{create_permission_sound}
 use Rattle.lb_alter.proofs.SoundUsers.{LeavesSound, grant_secadm_sound, revoke_secadm_sound, grant_role_sound, revoke_role_sound}
 
-settles : (K : Checks) (C : Cat) (T : Tables) → IsSound K C → (m : OrRefused Changed) → LeavesSound K m → IsSound K (settled C T m).cat
+settles : (K : StoredRules) (C : Cat) (T : Tables) → IsSound K C → (m : OrRefused Changed) → LeavesSound K m → IsSound K (settled C T m).cat
 settles K C T s (Ok d) h = h.sound d refl
 settles K C T s (Err r) h = s
 
-attempts : (K : Checks) → IsSteady K → (C : Cat) (T : Tables) (user : List ℕ) (s : Change) → IsAsRead s → IsSound K C → LeavesSound K (attempt K C T user s)
+attempts : (K : StoredRules) → IsSteady K → (C : Cat) (T : Tables) (user : List ℕ) (s : Change) → IsAsRead s → IsSound K C → LeavesSound K (attempt K C T user s)
 attempts K steady C T user (changes.GrantLabel l n access) r s = grant_label_sound K steady C T s user l n access
 attempts K steady C T user (changes.RevokeLabel l n) r s = revoke_label_sound K steady C T s user l n
 attempts K steady C T user (changes.GrantExemption rule policy n) r s = grant_exemption_sound K steady C T s user rule policy n
@@ -58,5 +59,5 @@ attempts K steady C T user (changes.CreatePermission d) r s = create_permission_
 attempts K steady C T user (changes.CreateTable n es o) r s = create_table_sound K steady C T s user n es o r
 attempts K steady C T user (changes.CreateMask d) r s = create_mask_sound K steady C T s user d
 
-pub stays_sound : (K : Checks) → StaysSound K
+pub stays_sound : (K : StoredRules) → StaysSound K
 stays_sound K steady C T user s r i = settles K C T i (attempt K C T user s) (attempts K steady C T user s r i)

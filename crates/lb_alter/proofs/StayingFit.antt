@@ -39,9 +39,10 @@ use Rattle.lb_alter.specs.ChangePolicy.{components_refusal, create_component, cr
 use Rattle.lb_alter.specs.ChangeTable.{columns_in, columns_refusal, create_table, drop_table_of, flaws_refusal, is_label_type, key_refusal, keys_in, policy_of, policy_refusal, secured_refusal, user_key, width_refusal}
 use Rattle.lb_alter.specs.Laws.{TablesStayFit}
 use Rattle.lb_alter.specs.Named.{AreDifferent}
-use Rattle.lb_alter.specs.Refusing.{exists_already, in_use, Changed, OrRefused, alters, each_passes, secadm, settled, when}
+use Rattle.lb_alter.specs.Refusing.{exists_already, in_use, Changed, alters, each_passes, secadm, settled, when}
+use Rattle.lb_cat.specs.OrRefused.{OrRefused}
 use Rattle.lb_alter.specs.Sound.{IsSound}
-use Rattle.lb_alter.specs.Stored.{Checks, calls_label, calls_policy, stored_name, user_of_table}
+use Rattle.lb_alter.specs.Stored.{StoredRules, calls_label, calls_policy, stored_name, user_of_table}
 use Rattle.lb_cat.specs.Catalog.{Cat, Table, column_named, component_named, drop_component, drop_role, has_role, is_column, label_named, policy_named, put_component, put_role, table_named}
 use Rattle.lb_cat.specs.Holdings.{has_holding_of, holding_of, holds_label, with_exemptions, with_holding, without_exemptions}
 use Rattle.lb_cat.specs.Privileges.{has_grant_on}
@@ -55,7 +56,7 @@ acts_fit : (C : Cat) (T : Tables) → EachFits C T → (t : Table) → table_nam
 acts_fit C T f t e first second = acts_case (λ (u : Table). LeavesFit (alters C T u)) t
     (λ row column. refits_fits C T f t e (refitted t row column t.public t.permissions t.masks) refl refl refl) first second
 
-module _ (K : Checks) (C : Cat) (T : Tables) (s : IsSound K C) (f : EachFits C T) (user : List ℕ) where
+module _ (K : StoredRules) (C : Cat) (T : Tables) (s : IsSound K C) (f : EachFits C T) (user : List ℕ) where
   one : AreDifferent (map (λ (x : Table). x.name) C.tables)
   one = s.one_each.tables
 
@@ -250,7 +251,7 @@ settled_fits : (C : Cat) (T : Tables) → EachFits C T → (m : OrRefused Change
 settled_fits C T f (Ok d) h = h.fits d refl
 settled_fits C T f (Err r) h = f
 
-pub stays_fit : (K : Checks) → TablesStayFit K
+pub stays_fit : (K : StoredRules) → TablesStayFit K
 stays_fit K C T user c s h =
     let f : EachFits C T = each_from C T h in
     each_to (change K C T user c).cat (change K C T user c).tables (settled_fits C T f (attempt K C T user c) (attempt_fits K C T s f user c))

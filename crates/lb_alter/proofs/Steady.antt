@@ -8,7 +8,7 @@ use Rattle.lb_base.specs.declared.key.Key.TheVariants as keys
 use Rattle.lb_cat.specs.Keys.{same_key, once}
 use Rattle.lb_cat.specs.Catalog.{Cat, table_named, policy_named}
 use Rattle.lb_names.specs.Mentions.{Mentions, in_stmt, tables_in, policies_in}
-use Rattle.lb_alter.specs.Deps.{in_tables, in_table, tables_for, policy_of_table, is_key_name, policies_for, components_of, components_for, deps_of, deps}
+use Rattle.lb_alter.specs.Deps.{in_tables, in_table, tables_for, policy_name_of, is_key_name, policies_for, components_of, components_for, deps_of, deps}
 use Rattle.lb_alter.specs.Frame.{SameRecord, SameOn, DepsStay, WriteDepsStay}
 
 -- ---- keys
@@ -80,9 +80,9 @@ module _ (C D : Cat) (ms : Mentions) (same : SameOn (deps_of C ms) C D) where
 
   policies_for_same : policies_for D ms ≡ policies_for C ms
   policies_for_same =
-      ap (λ (ts : List (List ℕ)). filter_map (λ n. policy_of_table (table_named D n)) ts ++ filter is_key_name (policies_in ms ++ policies_in (in_tables D (tables_in ms)))) tables_for_same
-      ∙ ap (λ (ps : List (List ℕ)). ps ++ filter is_key_name (policies_in ms ++ policies_in (in_tables D (tables_in ms)))) (same_filtered (table_named D) (table_named C) policy_of_table (tables_for C ms) tables_same)
-      ∙ ap (λ (b : Mentions). filter_map (λ n. policy_of_table (table_named C n)) (tables_for C ms) ++ filter is_key_name (policies_in ms ++ policies_in b)) after_same
+      ap (λ (ts : List (List ℕ)). filter_map (λ n. policy_name_of (table_named D n)) ts ++ filter is_key_name (policies_in ms ++ policies_in (in_tables D (tables_in ms)))) tables_for_same
+      ∙ ap (λ (ps : List (List ℕ)). ps ++ filter is_key_name (policies_in ms ++ policies_in (in_tables D (tables_in ms)))) (same_filtered (table_named D) (table_named C) policy_name_of (tables_for C ms) tables_same)
+      ∙ ap (λ (b : Mentions). filter_map (λ n. policy_name_of (table_named C n)) (tables_for C ms) ++ filter is_key_name (policies_in ms ++ policies_in b)) after_same
 
   components_for_same : components_for D ms ≡ components_for C ms
   components_for_same =

@@ -44,8 +44,9 @@ use Rattle.lb_alter.specs.ChangeLabel.{parts_refusal, label_parts, create_label,
 use Rattle.lb_alter.specs.ChangePolicy.{kind_of_definition, elements_of, with_elements, create_component, policy_name, has_component, drop_component_of, components_refusal, new_policy, create_policy, has_policy, table_name, first_label, drop_policy_of}
 use Rattle.lb_alter.specs.ChangeTable.{width_refusal, is_label_type, columns_in, keys_in, columns_refusal, key_refusal, policy_refusal, flaws_refusal, secured_refusal, policy_of, new_table, create_table, user_key, drop_table_of}
 use Rattle.lb_alter.specs.Frame.{SameRecord, SameRows, UntouchedStays, UsersStay}
-use Rattle.lb_alter.specs.Refusing.{in_use, exists_already, Changed, OrRefused, ◌>>=◌, ◌>>◌, when, each_passes, found, the_table, the_policy, the_label, owner, secadm, done, alters, alters_policy, settled}
-use Rattle.lb_alter.specs.Stored.{Checks, stored_name, user_of_table, calls_policy, calls_label}
+use Rattle.lb_alter.specs.Refusing.{in_use, exists_already, Changed, ◌>>◌, when, each_passes, found, the_table, the_policy, the_label, owner, secadm, done, alters, alters_policy, settled}
+use Rattle.lb_cat.specs.OrRefused.{OrRefused, ◌>>=◌}
+use Rattle.lb_alter.specs.Stored.{StoredRules, stored_name, user_of_table, calls_policy, calls_label}
 
 -- ---- lists of records
 
@@ -367,7 +368,7 @@ activate_stays C T user n first second =
     bind_stays C T (the_table C n) _ (λ t.
     alters_stays C T (with_acts first second t)))
 
-create_permission_stays : (K : Checks) (C : Cat) (T : Tables) (user : List ℕ) (d : PermissionDef) → Stays C T (create_permission K C T user d)
+create_permission_stays : (K : StoredRules) (C : Cat) (T : Tables) (user : List ℕ) (d : PermissionDef) → Stays C T (create_permission K C T user d)
 create_permission_stays K C T user d =
     test_stays C T (secadm C user) _ (
     bind_stays C T (the_table C d.on.table) _ (λ t.
@@ -377,7 +378,7 @@ create_permission_stays K C T user d =
     test_stays C T (K.condition_types C d.on d.condition) _ (
     alters_stays C T (with_permission (new_permission K C d) t)))))))
 
-create_mask_stays : (K : Checks) (C : Cat) (T : Tables) (user : List ℕ) (d : MaskDef) → Stays C T (create_mask K C T user d)
+create_mask_stays : (K : StoredRules) (C : Cat) (T : Tables) (user : List ℕ) (d : MaskDef) → Stays C T (create_mask K C T user d)
 create_mask_stays K C T user d =
     test_stays C T (secadm C user) _ (
     bind_stays C T (the_table C d.on.table) _ (λ t.
@@ -537,7 +538,7 @@ revoke_privileges_stays C T user ps n from =
     bind_stays C T (owner C user n) _ (λ t.
     revoke_from_stays C T t ps from)
 
-attempt_stays : (K : Checks) (C : Cat) (T : Tables) (user : List ℕ) (s : Change) → Stays C T (attempt K C T user s)
+attempt_stays : (K : StoredRules) (C : Cat) (T : Tables) (user : List ℕ) (s : Change) → Stays C T (attempt K C T user s)
 attempt_stays K C T user (changes.CreateTable n es policy) = create_table_stays C T user n es policy
 attempt_stays K C T user (changes.DropTable n) = drop_table_of_stays C T user n
 attempt_stays K C T user (changes.AddColumn n column ty) = add_column_stays C T user n column ty
@@ -579,12 +580,12 @@ settled_stays C T (Err r) h (keys.Policy n) u = (refl, tt)
 settled_stays C T (Err r) h (keys.Component n) u = (refl, tt)
 settled_stays C T (Err r) h (keys.User n) u = (refl, tt)
 
-pub untouched_stays : (K : Checks) → UntouchedStays K
+pub untouched_stays : (K : StoredRules) → UntouchedStays K
 untouched_stays K C T user s = settled_stays C T (attempt K C T user s) (attempt_stays K C T user s)
 
 settled_users : (C : Cat) (T : Tables) (m : OrRefused Changed) → Stays C T m → (n : List ℕ) → is_some (user_named C n) ≡ true → is_some (user_named (settled C T m).cat n) ≡ true
 settled_users C T (Ok d) h n there = h.users d refl n there
 settled_users C T (Err r) h n there = there
 
-pub users_stay : (K : Checks) → UsersStay K
+pub users_stay : (K : StoredRules) → UsersStay K
 users_stay K C T user s = settled_users C T (attempt K C T user s) (attempt_stays K C T user s)

@@ -11,7 +11,8 @@ use Rattle.lb_cat.specs.declared.refusal.Flaw.TheVariants as flaws
 use Rattle.lb_rows.specs.Tables.{Tables, put_version, rows_of}
 use Rattle.lb_cat.specs.Catalog.{Cat, column_named, is_column, put_table}
 use Rattle.lb_alter.specs.ChangeTable.{width_refusal, plain_type, is_label_type, secured_refusal, policy_of}
-use Rattle.lb_alter.specs.Refusing.{◌>>=◌, ◌>>◌, Changed, OrRefused, when, found, the_policy, owner, done, alters, exists_already}
+use Rattle.lb_alter.specs.Refusing.{◌>>◌, Changed, when, found, the_policy, owner, done, alters, exists_already}
+use Rattle.lb_cat.specs.OrRefused.{OrRefused, ◌>>=◌}
 
 -- the row with a null more
 abbrev pub with_null : List Value → List Value

@@ -10,11 +10,12 @@ use Rattle.lb_alter.specs.ChangeGrant.{grant_label, revoke_label, grant_exemptio
 use Rattle.lb_alter.specs.ChangeLabel.{create_label, drop_label}
 use Rattle.lb_alter.specs.ChangePolicy.{create_component, drop_component_of, create_policy, drop_policy_of}
 use Rattle.lb_alter.specs.ChangeTable.{create_table, drop_table_of}
-use Rattle.lb_alter.specs.Refusing.{Changed, OrRefused, settled}
-use Rattle.lb_alter.specs.Stored.{Checks}
+use Rattle.lb_alter.specs.Refusing.{Changed, settled}
+use Rattle.lb_cat.specs.OrRefused.{OrRefused}
+use Rattle.lb_alter.specs.Stored.{StoredRules}
 
 -- what the user's statement makes of the catalogue and the rows, or its first refusal
-abbrev pub attempt : Checks → Cat → Tables → List ℕ → Change → OrRefused Changed
+abbrev pub attempt : StoredRules → Cat → Tables → List ℕ → Change → OrRefused Changed
 attempt K C T user (changes.CreateTable n es policy) = create_table C T user n es policy
 attempt K C T user (changes.DropTable n) = drop_table_of C T user n
 attempt K C T user (changes.AddColumn n column ty) = add_column C T user n column ty
@@ -48,5 +49,5 @@ attempt K C T user (changes.GrantPrivileges privileges n to) = grant_privileges 
 attempt K C T user (changes.RevokePrivileges privileges n from) = revoke_privileges C T user privileges n from
 
 -- what the user's statement answers and leaves
-abbrev pub change : Checks → Cat → Tables → List ℕ → Change → Changed
+abbrev pub change : StoredRules → Cat → Tables → List ℕ → Change → Changed
 change K C T user s = settled C T (attempt K C T user s)

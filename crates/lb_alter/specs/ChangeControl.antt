@@ -3,6 +3,7 @@ use Rattle.std.specs.Prelude.{if◌then◌else◌, ℕ, Bool, true, false, not, 
 use Rattle.std.specs.List.{list_any}
 use Rattle.std.specs.Str.{bytes_eq}
 use Rattle.lb_tree.specs.declared.query.Tab.{Tab}
+use Rattle.lb_names.specs.Sights.{correlation}
 use Rattle.lb_stmt.specs.declared.change.Activation.{Activation}
 use Rattle.lb_stmt.specs.declared.change.ControlOf.{ControlOf}
 use Rattle.lb_stmt.specs.declared.change.ControlOf.TheVariants as controls
@@ -19,8 +20,9 @@ use Rattle.lb_rows.specs.Lists.{put, without}
 use Rattle.lb_cat.specs.Catalog.{Cat, Table, table_named, is_table, is_column, is_permission, is_mask}
 use Rattle.lb_names.specs.Mentions.{Mentions, in_cond, in_expr, tables_in}
 use Rattle.lb_alter.specs.ChangeTable.{is_label_column}
-use Rattle.lb_alter.specs.Refusing.{◌>>=◌, ◌>>◌, Changed, OrRefused, when, found, the_table, secadm, alters, exists_already}
-use Rattle.lb_alter.specs.Stored.{Checks}
+use Rattle.lb_alter.specs.Refusing.{◌>>◌, Changed, when, found, the_table, secadm, alters, exists_already}
+use Rattle.lb_cat.specs.OrRefused.{OrRefused, ◌>>=◌}
+use Rattle.lb_alter.specs.Stored.{StoredRules}
 
 -- ---- activation
 
@@ -60,13 +62,6 @@ has_permission n t = list_any (is_permission n) t.permissions
 abbrev pub has_mask : List ℕ → Table → Bool
 has_mask n t = list_any (is_mask n) t.masks
 
--- the correlation name that is written, else the table's name
-abbrev pub correlation_of : Tab → List ℕ
-correlation_of on = named_or on.table on.correlation where
-  named_or : List ℕ → Option (List ℕ) → List ℕ
-  named_or n None = n
-  named_or n (Some written) = written
-
 -- ---- sources
 
 -- the table is there and has a label column
@@ -94,10 +89,10 @@ abbrev pub takes_permission_name : PermissionDef → Table → Bool
 takes_permission_name d t = has_mask d.name t || (has_permission d.name t && not (d.replace && is_table d.on.table t))
 
 -- the permission as it is stored
-abbrev pub new_permission : Checks → Cat → PermissionDef → PermissionRec
+abbrev pub new_permission : StoredRules → Cat → PermissionDef → PermissionRec
 new_permission K C d = record {
   name = d.name;
-  correlation = correlation_of d.on;
+  correlation = correlation d.on;
   condition = K.qualified_condition C d.on d.condition;
   enabled = is_enabled d.switch;
 }
@@ -107,7 +102,7 @@ abbrev pub with_permission : PermissionRec → Table → Table
 with_permission p t = record t { permissions = put (is_permission p.name) p t.permissions }
 
 -- CREATE PERMISSION: the names of the condition come before its sources, and these before its types
-abbrev pub create_permission : Checks → Cat → Tables → List ℕ → PermissionDef → OrRefused Changed
+abbrev pub create_permission : StoredRules → Cat → Tables → List ℕ → PermissionDef → OrRefused Changed
 create_permission K C T user d = do
   secadm C user
   t ← the_table C d.on.table
@@ -136,11 +131,11 @@ abbrev pub other_mask : List ℕ → ℕ → Table → Option (List ℕ)
 other_mask n column t = option_map mask_name (find (λ m. m.column == column && not (is_mask n m)) t.masks)
 
 -- the mask as it is stored
-abbrev pub new_mask : Checks → Cat → ℕ → MaskDef → MaskRec
+abbrev pub new_mask : StoredRules → Cat → ℕ → MaskDef → MaskRec
 new_mask K C column d = record {
   name = d.name;
   column = column;
-  correlation = correlation_of d.on;
+  correlation = correlation d.on;
   value = K.qualified_mask C d.on d.value;
   enabled = is_enabled d.switch;
 }
@@ -150,7 +145,7 @@ abbrev pub with_mask : MaskRec → Table → Table
 with_mask m t = record t { masks = put (is_mask m.name) m t.masks }
 
 -- CREATE MASK: its CASE is of the type of the column
-abbrev pub create_mask : Checks → Cat → Tables → List ℕ → MaskDef → OrRefused Changed
+abbrev pub create_mask : StoredRules → Cat → Tables → List ℕ → MaskDef → OrRefused Changed
 create_mask K C T user d = do
   secadm C user
   t ← the_table C d.on.table

@@ -22,7 +22,8 @@ use Rattle.lb_cat.specs.Catalog.{Cat, Table, Policy, User, user_named, has_role,
 use Rattle.lb_cat.specs.Privileges.{privileges_on, with_privileges, with_granted}
 use Rattle.lb_cat.specs.Holdings.{holding_of, with_holding, holds_label, other_than, with_exemptions, without_exemptions}
 use Rattle.lb_alter.specs.ChangeLabel.{user_name}
-use Rattle.lb_alter.specs.Refusing.{◌>>=◌, ◌>>◌, Changed, OrRefused, when, the_policy, the_label, owner, secadm, done, alters, in_use, exists_already}
+use Rattle.lb_alter.specs.Refusing.{◌>>◌, Changed, when, the_policy, the_label, owner, secadm, done, alters, in_use, exists_already}
+use Rattle.lb_cat.specs.OrRefused.{OrRefused, ◌>>=◌}
 
 -- the user's record, and of a name without record a new one
 abbrev pub user_or_new : Cat → List ℕ → User

@@ -17,7 +17,8 @@ use Rattle.lb_rows.specs.Lists.{without}
 use Rattle.lb_cat.specs.Catalog.{Cat, Table, Policy, User, label_named, is_label, is_among}
 use Rattle.lb_cat.specs.Holdings.{holding_of, holds_label, is_same_name}
 use Rattle.lb_alter.specs.ChangePolicy.{has_policy, table_name}
-use Rattle.lb_alter.specs.Refusing.{◌>>=◌, ◌>>◌, Changed, OrRefused, when, earliest, each_passes, the_policy, the_label, secadm, alters_policy, in_use}
+use Rattle.lb_alter.specs.Refusing.{◌>>◌, Changed, when, earliest, each_passes, the_policy, the_label, secadm, alters_policy, in_use}
+use Rattle.lb_cat.specs.OrRefused.{OrRefused, ◌>>=◌}
 use Rattle.lb_alter.specs.Stored.{calls_label}
 
 -- the place of a component in the policy, and its definition

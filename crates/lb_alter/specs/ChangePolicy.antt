@@ -19,7 +19,8 @@ use Rattle.lb_rows.specs.Tables.{Tables}
 use Rattle.lb_cat.specs.Catalog.{Cat, Table, Policy, Component, policy_named, component_named, is_among, put_policy, put_component, drop_policy, drop_component}
 use Rattle.lb_cat.specs.Holdings.{is_same_name, has_holding_of, without_holding}
 use Rattle.lb_alter.specs.ChangeTable.{user_key}
-use Rattle.lb_alter.specs.Refusing.{◌>>=◌, ◌>>◌, Changed, OrRefused, when, earliest, found, the_policy, secadm, done, in_use}
+use Rattle.lb_alter.specs.Refusing.{◌>>◌, Changed, when, earliest, found, the_policy, secadm, done, in_use}
+use Rattle.lb_cat.specs.OrRefused.{OrRefused, ◌>>=◌}
 use Rattle.lb_alter.specs.Stored.{calls_policy}
 
 -- ---- components

@@ -22,7 +22,8 @@ use Rattle.lb_rows.specs.Tables.{Tables, is_version, put_version}
 use Rattle.lb_rows.specs.Lists.{without}
 use Rattle.lb_cat.specs.Catalog.{Cat, Table, Policy, User, table_named, policy_named, label_named, is_among, put_table, drop_table}
 use Rattle.lb_cat.specs.Privileges.{no_privileges, has_grant_on, without_grant}
-use Rattle.lb_alter.specs.Refusing.{◌>>=◌, ◌>>◌, Changed, OrRefused, when, earliest, each_passes, owner, done, in_use}
+use Rattle.lb_alter.specs.Refusing.{◌>>◌, Changed, when, earliest, each_passes, owner, done, in_use}
+use Rattle.lb_cat.specs.OrRefused.{OrRefused, ◌>>=◌}
 use Rattle.lb_alter.specs.Stored.{stored_name, user_of_table}
 
 -- ---- types

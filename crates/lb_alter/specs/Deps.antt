@@ -25,9 +25,9 @@ abbrev pub tables_for : Cat → Mentions → List (List ℕ)
 tables_for C ms = tables_in ms ++ tables_in (in_tables C (tables_in ms))
 
 -- the policy of a table that may be missing
-abbrev pub policy_of_table : Option Table → Option (List ℕ)
-policy_of_table None = None
-policy_of_table (Some t) = t.policy
+abbrev pub policy_name_of : Option Table → Option (List ℕ)
+policy_name_of None = None
+policy_name_of (Some t) = t.policy
 
 -- a text that is a name in upper case; another one is the name of no policy, now or ever
 abbrev pub is_key_name : List ℕ → Bool
@@ -36,7 +36,7 @@ is_key_name n = is_name n && bytes_eq (folded n) n
 -- the policies of these tables, and those of the calls of the statement and of the permissions and masks
 abbrev pub policies_for : Cat → Mentions → List (List ℕ)
 policies_for C ms =
-    filter_map (λ n. policy_of_table (table_named C n)) (tables_for C ms)
+    filter_map (λ n. policy_name_of (table_named C n)) (tables_for C ms)
     ++ filter is_key_name (policies_in ms ++ policies_in (in_tables C (tables_in ms)))
 
 -- the components of a policy that may be missing

@@ -8,7 +8,7 @@ use Rattle.lb_stmt.specs.declared.write.Stmt.{Stmt}
 use Rattle.lb_rows.specs.Tables.{Tables, is_version}
 use Rattle.lb_cat.specs.Keys.{has_key}
 use Rattle.lb_cat.specs.Catalog.{Cat, table_named, policy_named, component_named, user_named}
-use Rattle.lb_alter.specs.Stored.{Checks}
+use Rattle.lb_alter.specs.Stored.{StoredRules}
 use Rattle.lb_alter.specs.Change.{change}
 use Rattle.lb_alter.specs.Deps.{deps, write_deps}
 
@@ -29,12 +29,12 @@ SameRows T U (keys.Component n) = Unit {0}
 SameRows T U (keys.User n) = Unit {0}
 
 -- a key that a change doesn't touch has the same record and rows
-abbrev pub UntouchedStays : Checks → Type 0
+abbrev pub UntouchedStays : StoredRules → Type 0
 UntouchedStays K = (C : Cat) (T : Tables) (user : List ℕ) (s : Change) (k : Key) → has_key k (change K C T user s).touched ≡ false
     → SameRecord C (change K C T user s).cat k × SameRows T (change K C T user s).tables k
 
 -- no change takes a user's record away
-abbrev pub UsersStay : Checks → Type 0
+abbrev pub UsersStay : StoredRules → Type 0
 UsersStay K = (C : Cat) (T : Tables) (user : List ℕ) (s : Change) (n : List ℕ) → is_some (user_named C n) ≡ true → is_some (user_named (change K C T user s).cat n) ≡ true
 
 -- the two catalogues have the same records under some keys

@@ -6,6 +6,7 @@ use Rattle.lb_base.specs.declared.key.Key.TheVariants as keys
 use Rattle.lb_cat.specs.declared.refusal.Refusal.{Refusal}
 use Rattle.lb_cat.specs.declared.refusal.Refusal.TheVariants as refusals
 use Rattle.lb_cat.specs.declared.refusal.NeededPrivilege.TheVariants as needed
+use Rattle.lb_cat.specs.OrRefused.{OrRefused, ◌>>=◌}
 use Rattle.lb_cat.specs.declared.reply.Reply.{Reply}
 use Rattle.lb_cat.specs.declared.reply.Reply.TheVariants as replies
 use Rattle.lb_cat.specs.declared.catalog.LabelRec.{LabelRec}
@@ -18,16 +19,6 @@ pub record Changed : Type 0 where
   pub tables : Tables
   pub touched : List Key
   pub reply : Reply
-
--- what a statement makes, or why it is refused
-abbrev pub OrRefused : Type 0 → Type 0
-OrRefused A = Result A Refusal
-
--- x ← e: what e finds, or its refusal
-infixl 10 ◌>>=◌
-abbrev pub ◌>>=◌ : {A B : Type 0} → OrRefused A → (A → OrRefused B) → OrRefused B
-Ok x >>= f = f x
-Err r >>= f = Err r
 
 -- a test: it refuses, or what comes after it decides
 infixl 10 ◌>>◌

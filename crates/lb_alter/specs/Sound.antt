@@ -3,7 +3,7 @@ use Rattle.std.specs.Prelude.{◌≤◌, length}
 use Rattle.std.specs.List.{AllByRecursion}
 use Rattle.lb_label.specs.Component.{IsComponent}
 use Rattle.lb_cat.specs.Catalog.{Cat, Policy, Component}
-use Rattle.lb_alter.specs.Stored.{Checks}
+use Rattle.lb_alter.specs.Stored.{StoredRules}
 use Rattle.lb_alter.specs.Named.{HasOneOfEachName, NamesRecords, HasFoldedNames, ReadsGoodSources, HasDifferentNames, HasNoEmptyEntry}
 use Rattle.lb_alter.specs.Columns.{HasItsColumns, HasOneLabelColumn, HasFewColumns}
 use Rattle.lb_alter.specs.Labelled.{LabelsBelong, HeldLabelsAreThere, HasItsShape}
@@ -25,7 +25,7 @@ pub record IsWithinLimits (C : Cat) : Type 0 where
   pub components : AllByRecursion IsWellMade C.components
 
 -- all that a sound catalogue keeps, under rules of names and types
-pub record IsSound (K : Checks) (C : Cat) : Type 0 where
+pub record IsSound (K : StoredRules) (C : Cat) : Type 0 where
   pub one_each : HasOneOfEachName C
   pub folded : HasFoldedNames C
   pub records : NamesRecords C

@@ -10,12 +10,12 @@ use Rattle.lb_cat.specs.declared.refusal.Refusal.{Refusal}
 use Rattle.lb_cat.specs.declared.refusal.Refusal.TheVariants as refusals
 use Rattle.lb_cat.specs.Catalog.{is_column, Cat, Table, Policy, label_named, table_named, policy_named, put_table, put_policy}
 use Rattle.lb_names.specs.Mentions.{Mention, Mentions, table, policy, label, in_cond, in_expr, tables_in, policies_in}
-use Rattle.lb_alter.specs.ChangeControl.{correlation_of}
+use Rattle.lb_names.specs.Sights.{correlation}
 use Rattle.lb_alter.specs.ChangeTable.{is_label_column}
 use Rattle.lb_alter.specs.Deps.{deps_of}
 use Rattle.lb_alter.specs.Frame.{SameOn}
 use Rattle.lb_alter.specs.Named.{HasTable, HasPolicy, HasFoldedNames}
-use Rattle.lb_alter.specs.Stored.{Checks}
+use Rattle.lb_alter.specs.Stored.{StoredRules}
 use Rattle.lb_alter.specs.Valid.{KeepsRules, KeepsMaskRules, IsValid, IsValidMask}
 
 -- what a stored condition depends on beside its own table
@@ -48,7 +48,7 @@ StaysNamed p q (policy n) = Unit {0}
 StaysNamed p q (label n l) = n ≡ p.name → is_some (label_named p l) ≡ true → is_some (label_named q l) ≡ true
 
 -- What `StaysSound` asks of the rules of names and types.
-pub record IsSteady (K : Checks) : Type 0 where
+pub record IsSteady (K : StoredRules) : Type 0 where
   -- they read no more than what the condition depends on, where policies have folded names
   pub reads : (C D : Cat) (on : Tab) (c : Cond) → HasFoldedNames C → HasFoldedNames D → SameOn (stored_deps C on (in_cond c)) C D → KeepsRules K C on c → KeepsRules K D on c
   pub reads_mask : (C D : Cat) (on : Tab) (column : List ℕ) (e : Expr) → HasFoldedNames C → HasFoldedNames D → SameOn (stored_deps C on (in_expr e)) C D → KeepsMaskRules K C on column e → KeepsMaskRules K D on column e
@@ -57,9 +57,9 @@ pub record IsSteady (K : Checks) : Type 0 where
   pub mask_mentions : (C : Cat) (on : Tab) (e : Expr) → in_expr (K.qualified_mask C on e) ≡ in_expr e
   -- what keeps the rules keeps them when it is qualified, over the table by the name that the condition calls it by
   pub qualifies : (C : Cat) (t : Table) (on : Tab) (c : Cond) → table_named C on.table ≡ Some t → KeepsRules K C on c
-      → IsValid K C t (record { name = []; correlation = correlation_of on; condition = K.qualified_condition C on c; enabled = true })
+      → IsValid K C t (record { name = []; correlation = correlation on; condition = K.qualified_condition C on c; enabled = true })
   pub qualifies_mask : (C : Cat) (t : Table) (on : Tab) (at : ℕ) (c : ColumnRec) (e : Expr) → table_named C on.table ≡ Some t → position (is_column c.name) t.columns ≡ Some at → slice_get t.columns at ≡ Some c → KeepsMaskRules K C on c.name e
-      → IsValidMask K C t (record { name = []; column = at; correlation = correlation_of on; value = K.qualified_mask C on e; enabled = true })
+      → IsValidMask K C t (record { name = []; column = at; correlation = correlation on; value = K.qualified_mask C on e; enabled = true })
   -- a table that gets wider breaks no condition that is qualified
   pub widens : (C : Cat) (t u : Table) (on : Tab) (c : Cond) → table_named C t.name ≡ Some t → IsWider t u → K.are_qualified c ≡ true → KeepsRules K C on c → KeepsRules K (put_table u C) on c
   pub widens_mask : (C : Cat) (t u : Table) (on : Tab) (column : List ℕ) (e : Expr) → table_named C t.name ≡ Some t → IsWider t u → K.are_qualified_in e ≡ true → KeepsMaskRules K C on column e
@@ -78,7 +78,7 @@ plain_refusal [] = None
 plain_refusal (m ∷ ms) = Some (refusals.Unknown [])
 
 -- rules that refuse all masks, and each condition that names anything, by which it is seen that what is asked can be met
-abbrev pub plain_rules : Checks
+abbrev pub plain_rules : StoredRules
 plain_rules = record {
   condition_names = λ C on c. plain_refusal (in_cond c);
   mask_names = λ C on e. plain_refusal (in_expr e);

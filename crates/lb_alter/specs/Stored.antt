@@ -13,7 +13,7 @@ use Rattle.lb_names.specs.Mentions.{Mentions, in_cond, in_expr, is_table_mention
 
 -- The rules of names and types over stored conditions, which take the catalogue, and the table with the correlation name by which
 -- the condition calls it. What a change does and what soundness asks is said for any such rules.
-pub record Checks : Type 0 where
+pub record StoredRules : Type 0 where
   -- the first refusal of a name
   pub condition_names : Cat → Tab → Cond → Option Refusal
   pub mask_names : Cat → Tab → Expr → Option Refusal

@@ -21,19 +21,19 @@ use Rattle.lb_cat.specs.declared.reply.Reply.{Reply}
 use Rattle.lb_cat.specs.declared.reply.Reply.TheVariants as replies
 use Rattle.lb_cat.specs.Catalog.{Cat, first_cat}
 use Rattle.lb_alter.specs.Change.{change}
-use Rattle.lb_alter.specs.Stored.{Checks}
+use Rattle.lb_alter.specs.Stored.{StoredRules}
 
 -- the first user
 abbrev pub admin : List ℕ
 admin = codes "SECADMIN"
 
 -- what stands after these statements of SECADMIN, without rows
-abbrev pub after_all : Checks → Cat → List Change → Cat
+abbrev pub after_all : StoredRules → Cat → List Change → Cat
 after_all K C [] = C
 after_all K C (s ∷ ss) = after_all K (change K C [] admin s).cat ss
 
 -- what a statement of the user answers there
-abbrev pub reply_to : Checks → Cat → List ℕ → Change → Reply
+abbrev pub reply_to : StoredRules → Cat → List ℕ → Change → Reply
 reply_to K C user s = (change K C [] user s).reply
 
 -- a label of a policy
@@ -99,7 +99,7 @@ set_up =
     ∷ []
 
 -- the catalogue that these leave
-abbrev pub catalog : Checks → Cat
+abbrev pub catalog : StoredRules → Cat
 catalog K = after_all K first_cat set_up
 
 -- the label LO
@@ -107,11 +107,11 @@ abbrev pub lower : Change
 lower = label_of (codes "LO") (codes "LOW" ∷ []) (codes "HR" ∷ []) (codes "EU" ∷ [])
 
 -- DAN holds LO for reading
-abbrev pub granted : Checks → Cat
+abbrev pub granted : StoredRules → Cat
 granted K = after_all K (catalog K) (lower ∷ changes.GrantLabel (label (codes "P") (codes "LO")) (codes "DAN") accesses.Read ∷ [])
 
 -- there the statement of the user answers so
-abbrev pub Answers : Cat → Checks → List ℕ → Change → Reply → Type 0
+abbrev pub Answers : Cat → StoredRules → List ℕ → Change → Reply → Type 0
 Answers C K user s r = reply_to K C user s ≡ r
 
 -- it is refused

@@ -29,11 +29,11 @@ use Rattle.lb_cat.specs.declared.catalog.Holding.{Holding}
 use Rattle.lb_alter.specs.Change.{change}
 use Rattle.lb_alter.specs.Deps.{write_deps}
 use Rattle.lb_alter.specs.Refusing.{Changed}
-use Rattle.lb_alter.specs.Stored.{Checks}
+use Rattle.lb_alter.specs.Stored.{StoredRules}
 use Rattle.lb_alter.specs.Worked.{admin, after_all, label_of, Answers, table, label, plain, int, text, granted, catalog, refused}
 
 -- labels that disagree in LEVEL, a label that is held, and a user without SECADM
-pub record GrantsAreRefused (K : Checks) : Type 0 where
+pub record GrantsAreRefused (K : StoredRules) : Type 0 where
   pub mismatch : Answers (granted K) K admin (changes.GrantLabel (label (codes "P") (codes "MHE")) (codes "DAN") accesses.Write) (refused (refusals.GrantMismatch (codes "LEVEL")))
   pub another : Answers (granted K) K admin (changes.GrantLabel (label (codes "P") (codes "MHE")) (codes "DAN") accesses.All) (refused (refusals.Exists (codes "LO")))
   pub again : Answers (granted K) K admin (changes.GrantLabel (label (codes "P") (codes "LO")) (codes "DAN") accesses.All) replies.Done
@@ -52,7 +52,7 @@ abbrev pub labels : List ℕ → Element
 labels n = elements.Column (plain n types.Label)
 
 -- the refusals of CREATE TABLE in their order: each statement breaks the rule that is named and later ones
-pub record TablesAreRefused (K : Checks) : Type 0 where
+pub record TablesAreRefused (K : StoredRules) : Type 0 where
   pub taken : Answers (catalog K) K (codes "ANN") (table (codes "T") (pay None ∷ pay None ∷ []) None) (refused (refusals.Exists (codes "T")))
   pub repeated : Answers (catalog K) K (codes "ANN") (table (codes "Z") (pay None ∷ pay None ∷ elements.Column (plain (codes "V") (text 0)) ∷ []) None) (refused (refusals.Exists (codes "PAY")))
   pub width : Answers (catalog K) K (codes "ANN") (table (codes "Z") (elements.Column (plain (codes "V") (text 255)) ∷ elements.Key (codes "W") ∷ []) None) (refused (refusals.Limit limits.Width 254))
@@ -67,7 +67,7 @@ pub record TablesAreRefused (K : Checks) : Type 0 where
   pub unknown : Answers (catalog K) K (codes "ANN") (changes.DropTable (codes "U")) (refused (refusals.Unknown (codes "U")))
 
 -- a component and labels: the refusals of their elements and parts
-pub record LabelsAreRefused (K : Checks) : Type 0 where
+pub record LabelsAreRefused (K : StoredRules) : Type 0 where
   pub element : Answers (catalog K) K admin (changes.CreateComponent (codes "C") (definitions.Set (codes "A" ∷ codes "a:b" ∷ codes "A" ∷ []))) (refused (refusals.BadLabel 1))
   pub repeated : Answers (catalog K) K admin (changes.CreateComponent (codes "C") (definitions.Set (codes "A" ∷ codes "A" ∷ codes "a:b" ∷ []))) (refused (refusals.Exists (codes "A")))
   pub parent : Answers (catalog K) K admin (changes.CreateComponent (codes "C") (definitions.Tree (codes "A") (record { name = codes "B"; parent = codes "D" } ∷ []))) (refused (refusals.Unknown (codes "D")))
@@ -76,15 +76,15 @@ pub record LabelsAreRefused (K : Checks) : Type 0 where
   pub taken : Answers (catalog K) K admin (label_of (codes "MHE") (codes "NO" ∷ []) [] []) (refused (refusals.Exists (codes "MHE")))
 
 -- all of these
-abbrev pub AllAreRefused : Checks → Type 0
+abbrev pub AllAreRefused : StoredRules → Type 0
 AllAreRefused K = GrantsAreRefused K × TablesAreRefused K × LabelsAreRefused K
 
 -- dropping a table ends the privileges on it, and touches who had some
-abbrev pub dropped : Checks → Changed
+abbrev pub dropped : StoredRules → Changed
 dropped K = change K (after_all K (catalog K) (changes.GrantPrivileges (privileges.Select ∷ []) (codes "T") (grantees.User (codes "ANN")) ∷ [])) [] admin (changes.DropTable (codes "T"))
 
 -- ANN had a privilege on it
-abbrev pub DropsTouchUsers : Checks → Type 0
+abbrev pub DropsTouchUsers : StoredRules → Type 0
 DropsTouchUsers K = (dropped K).touched ≡ keys.Table (codes "T") ∷ keys.Rows (codes "T") ∷ keys.User (codes "ANN") ∷ []
 
 -- ---- what they leave
@@ -98,7 +98,7 @@ abbrev pub parts_named : Cat → List ℕ → Option (List ℕ)
 parts_named C n = option_and_then (λ p. option_map (λ l. l.parts.items) (label_named p n)) (policy_named C (codes "P"))
 
 -- a second policy, for which BOB has an exemption alone
-abbrev pub second : Checks → Cat
+abbrev pub second : StoredRules → Cat
 second K = after_all K (catalog K)
     (changes.CreatePolicy (record { name = codes "Q"; components = codes "DEPT" ∷ []; option = options.Override })
     ∷ changes.GrantExemption (exempted.Rule rules.WriteSet) (codes "Q") (codes "BOB")
@@ -109,7 +109,7 @@ abbrev pub delete_from : List ℕ → Stmt
 delete_from n = stmts.Delete (record { target = record { table = n; correlation = None }; filter = None })
 
 -- what statements leave
-pub record AllLeave (K : Checks) : Type 0 where
+pub record AllLeave (K : StoredRules) : Type 0 where
   -- the parts of a label: MID is the second element of its ARRAY, HR bit 0, EU bit 1
   pub parts : parts_named (catalog K) (codes "MHE") ≡ Some (2 ∷ 1 ∷ 2 ∷ [])
   pub full : parts_named (catalog K) (codes "FULL") ≡ Some (1 ∷ 7 ∷ 1 ∷ [])
@@ -146,7 +146,7 @@ abbrev pub asks_teller : Cond
 asks_teller = conds.Exists reads_teller
 
 -- TELLER, and CUST with a permission that reads it
-abbrev pub bank : Checks → Cat
+abbrev pub bank : StoredRules → Cat
 bank K = record (after_all K first_cat (table (codes "TELLER") (pay None ∷ []) None ∷ table (codes "CUST") (pay None ∷ []) None ∷ [])) {
   tables =
       map (λ t. if is_table (codes "CUST") t then record t { permissions = record { name = codes "TELLERS"; correlation = codes "CUST"; condition = asks_teller; enabled = true } ∷ [] } else t)
@@ -154,7 +154,7 @@ bank K = record (after_all K first_cat (table (codes "TELLER") (pay None ∷ [])
 }
 
 -- the table that is read can't be dropped, and what reads through the permission depends on it
-pub record ReadsThrough (K : Checks) : Type 0 where
+pub record ReadsThrough (K : StoredRules) : Type 0 where
   pub dropped : Answers (bank K) K admin (changes.DropTable (codes "TELLER")) (refused (refusals.InUse (codes "TELLER") (codes "TELLERS")))
   pub depends : write_deps (bank K) (delete_from (codes "CUST")) (codes "ANN")
       ≡ keys.Table (codes "CUST") ∷ keys.Table (codes "TELLER") ∷ keys.Rows (codes "CUST") ∷ keys.Rows (codes "TELLER") ∷ keys.User (codes "ANN") ∷ []

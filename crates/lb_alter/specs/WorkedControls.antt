@@ -19,12 +19,12 @@ use Rattle.lb_cat.specs.declared.reply.Reply.{Reply}
 use Rattle.lb_cat.specs.Catalog.{Cat, Table, table_named, first_cat, put_table}
 use Rattle.lb_alter.specs.Change.{change}
 use Rattle.lb_alter.specs.ChangeTable.{new_table}
-use Rattle.lb_alter.specs.Stored.{Checks}
+use Rattle.lb_alter.specs.Stored.{StoredRules}
 use Rattle.lb_alter.specs.Worked.{Answers, admin, after_all, catalog, int, label, plain, refused, table}
 use Rattle.lb_alter.specs.WorkedAnswers.{asks_teller, pay}
 
 -- rules that refuse every condition for a name, for a type, or not at all
-abbrev pub rules_by : Option Refusal → Option Refusal → Checks
+abbrev pub rules_by : Option Refusal → Option Refusal → StoredRules
 rules_by names types = record {
   condition_names = λ C on c. names;
   mask_names = λ C on e. names;
@@ -85,7 +85,7 @@ abbrev pub exists : List ℕ → Reply
 exists n = refused (refusals.Exists n)
 
 -- the refusals of CREATE PERMISSION in their order
-pub record PermissionsAreRefused (K : Checks) : Type 0 where
+pub record PermissionsAreRefused (K : StoredRules) : Type 0 where
   pub secadm : Answers shop K (codes "ANN") (permission false (codes "ONE") (codes "NO") asks_policy switches.Enable) (refused refusals.NotSecadm)
   pub table : Answers shop K admin (permission false (codes "ONE") (codes "NO") asks_policy switches.Enable) (unknown (codes "NO"))
   pub taken : Answers shop K admin (permission false (codes "ONE") (codes "CUST") asks_policy switches.Enable) (exists (codes "ONE"))
@@ -100,7 +100,7 @@ pub record SourcesStandBetween : Type 0 where
   pub types : Answers shop (rules_by None (Some (refusals.Types 3))) admin (permission false (codes "TWO") (codes "CUST") asks_teller switches.Enable) (refused (refusals.Types 3))
 
 -- the refusals of CREATE MASK in their order, before its names
-pub record MasksAreRefused (K : Checks) : Type 0 where
+pub record MasksAreRefused (K : StoredRules) : Type 0 where
   pub secadm : Answers shop K (codes "ANN") (mask false (codes "HIDE") (codes "NO") (codes "NO")) (refused refusals.NotSecadm)
   pub table : Answers shop K admin (mask false (codes "HIDE") (codes "NO") (codes "NO")) (unknown (codes "NO"))
   pub column : Answers shop K admin (mask false (codes "HIDE") (codes "CUST") (codes "NO")) (unknown (codes "NO"))
@@ -112,7 +112,7 @@ pub record MasksAreRefused (K : Checks) : Type 0 where
   pub other : Answers shop K admin (mask false (codes "TWO") (codes "CUST") (codes "PAY")) (exists (codes "HIDE"))
 
 -- ALTER and DROP want a name of their own kind
-pub record OtherKindIsUnknown (K : Checks) : Type 0 where
+pub record OtherKindIsUnknown (K : StoredRules) : Type 0 where
   pub switched : Answers shop K admin (changes.SwitchPermission (codes "HIDE") switches.Enable) (unknown (codes "HIDE"))
   pub dropped : Answers shop K admin (changes.DropMask (codes "ONE")) (unknown (codes "ONE"))
 
@@ -121,13 +121,13 @@ abbrev pub switches_of : Cat → List ℕ → Option (List Bool)
 switches_of C n = option_map (λ t. map (λ p. p.enabled) t.permissions) (table_named C n)
 
 -- ALTER PERMISSION switches it on
-abbrev pub Switches : Checks → Type 0
+abbrev pub Switches : StoredRules → Type 0
 Switches K = switches_of (change K shop [] admin (changes.SwitchPermission (codes "ONE") switches.Enable)).cat (codes "CUST") ≡ Some (true ∷ [])
 
 -- ---- what is in use
 
 -- a policy Q with the label X, and a role that ANN has
-abbrev pub used : Checks → Cat
+abbrev pub used : StoredRules → Cat
 used K = after_all K (catalog K)
     (changes.CreatePolicy (record { name = codes "Q"; components = codes "DEPT" ∷ []; option = options.Override })
     ∷ changes.CreateLabel (label (codes "Q") (codes "X")) []
@@ -138,7 +138,7 @@ used K = after_all K (catalog K)
     ∷ [])
 
 -- what is used can't be dropped
-pub record AreInUse (K : Checks) : Type 0 where
+pub record AreInUse (K : StoredRules) : Type 0 where
   -- a role by a user, a policy by its first label, a label by a column
   pub role : Answers (used K) K admin (changes.DropRole (codes "R")) (refused (refusals.InUse (codes "R") (codes "ANN")))
   pub labelled : Answers (used K) K admin (changes.DropPolicy (codes "Q")) (refused (refusals.InUse (codes "Q") (codes "X")))
@@ -149,9 +149,9 @@ abbrev pub calling : Cat
 calling = record shop { policies = record { name = codes "Q"; components = []; shape = []; restrict = false; labels = record { name = codes "X"; parts = record { items = [] } } ∷ [] } ∷ [] }
 
 -- a policy is in use by a table whose permission calls it
-abbrev pub CalledIsInUse : Checks → Type 0
+abbrev pub CalledIsInUse : StoredRules → Type 0
 CalledIsInUse K = Answers calling K admin (changes.DropPolicy (codes "Q")) (refused (refusals.InUse (codes "Q") (codes "CUST")))
 
 -- a label is in use by a table whose mask names it
-abbrev pub NamedIsInUse : Checks → Type 0
+abbrev pub NamedIsInUse : StoredRules → Type 0
 NamedIsInUse K = Answers calling K admin (changes.DropLabel (label (codes "Q") (codes "X"))) (refused (refusals.InUse (codes "X") (codes "CUST")))

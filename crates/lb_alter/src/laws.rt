@@ -9,7 +9,7 @@ ghost use Rattle.lb_alter.specs.Laws.{
   TablesStayFit,
 };
 ghost use Rattle.lb_alter.specs.Steady.{IsSteady, plain_rules};
-ghost use Rattle.lb_alter.specs.Stored.{Checks};
+ghost use Rattle.lb_alter.specs.Stored.{StoredRules};
 ghost use Rattle.lb_alter.specs.WorkedControls.{
   AreInUse,
   CalledIsInUse,
@@ -24,37 +24,37 @@ ghost use Rattle.lb_alter.specs.WorkedAnswers.{AllAreRefused, AllLeave, DropsTou
 
 /// What some statements answer in a small catalogue.
 pub fn worked_changes()
-    ensures refused { (K : Checks) → AllAreRefused K }
-    ensures touched { (K : Checks) → DropsTouchUsers K }
-    ensures leave { (K : Checks) → AllLeave K }
-    ensures through { (K : Checks) → ReadsThrough K }
+    ensures refused { (K : StoredRules) → AllAreRefused K }
+    ensures touched { (K : StoredRules) → DropsTouchUsers K }
+    ensures leave { (K : StoredRules) → AllLeave K }
+    ensures through { (K : StoredRules) → ReadsThrough K }
 {}
 
 /// What statements on permissions and masks answer in a catalogue of two tables, and what is in use.
 pub fn worked_controls()
-    ensures permissions { (K : Checks) → PermissionsAreRefused K }
+    ensures permissions { (K : StoredRules) → PermissionsAreRefused K }
     ensures between { SourcesStandBetween }
-    ensures masks { (K : Checks) → MasksAreRefused K }
-    ensures kinds { (K : Checks) → OtherKindIsUnknown K }
-    ensures switches { (K : Checks) → Switches K }
-    ensures used { (K : Checks) → AreInUse K }
-    ensures called { (K : Checks) → CalledIsInUse K }
-    ensures named { (K : Checks) → NamedIsInUse K }
+    ensures masks { (K : StoredRules) → MasksAreRefused K }
+    ensures kinds { (K : StoredRules) → OtherKindIsUnknown K }
+    ensures switches { (K : StoredRules) → Switches K }
+    ensures used { (K : StoredRules) → AreInUse K }
+    ensures called { (K : StoredRules) → CalledIsInUse K }
+    ensures named { (K : StoredRules) → NamedIsInUse K }
 {}
 
 /// A key that a change doesn't touch has the same record and the same rows afterwards.
 pub fn untouched_stays()
-    ensures { (K : Checks) → UntouchedStays K }
+    ensures { (K : StoredRules) → UntouchedStays K }
 {}
 
 /// No change takes a user's record away: a user who has one keeps one, also where nothing is left that was granted.
 pub fn users_stay()
-    ensures { (K : Checks) → UsersStay K }
+    ensures { (K : StoredRules) → UsersStay K }
 {}
 
 /// The catalogue with which every journal begins is sound.
 pub fn first_is_sound()
-    ensures { (K : Checks) → FirstIsSound K }
+    ensures { (K : StoredRules) → FirstIsSound K }
 {}
 
 /// What a statement depends on is the same where the records that it depends on are, and so is what the commit of a write depends
@@ -71,12 +71,12 @@ pub fn some_rules_are_steady()
 
 /// A change of a sound catalogue leaves a sound one.
 pub fn changes_stay_sound()
-    ensures { (K : Checks) → StaysSound K }
+    ensures { (K : StoredRules) → StaysSound K }
 {}
 
 /// In a sound catalogue the credentials of every user fit on every list of keys.
 pub fn credentials_fit()
-    ensures { (K : Checks) → CredentialsFit K }
+    ensures { (K : StoredRules) → CredentialsFit K }
 {}
 
 /// The tables with which every journal begins fit the first catalogue.
@@ -86,10 +86,10 @@ pub fn first_tables_fit()
 
 /// Where the rows of all tables fit a sound catalogue, they fit it after each change.
 pub fn changes_keep_fits()
-    ensures { (K : Checks) → TablesStayFit K }
+    ensures { (K : StoredRules) → TablesStayFit K }
 {}
 
 /// Rows and credentials that fit on what a statement depends on fit every sound catalogue with the same records there.
 pub fn fits_follow()
-    ensures { (K : Checks) → FitsFollow K }
+    ensures { (K : StoredRules) → FitsFollow K }
 {}

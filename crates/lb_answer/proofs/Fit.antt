@@ -7,7 +7,8 @@ use Rattle.lb_base.specs.declared.key.Ty.TheVariants as types
 use Rattle.lb_base.specs.declared.value.Value.{Value}
 use Rattle.lb_cat.specs.declared.catalog.ColumnRec.{ColumnRec}
 use Rattle.lb_cat.specs.Catalog.{Table, Policy}
-use Rattle.lb_answer.specs.OrRefused.{OrRefused, ◌>>=◌, all_made}
+use Rattle.lb_answer.specs.OrRefused.{all_made}
+use Rattle.lb_cat.specs.OrRefused.{OrRefused, ◌>>=◌}
 use Rattle.lb_answer.specs.Basis.{Basis}
 use Rattle.lb_answer.specs.Candidates.{Marked}
 use Rattle.lb_answer.specs.Checks.{values_fit, value_fits, row_fits, is_label_type, label_place, label_at, new_row, made, old_writable, labelled, labelled_at, stored_label, masks_show_own, is_allowed}

@@ -20,23 +20,24 @@ use Rattle.lb_rows.specs.Tables.{Tables}
 use Rattle.lb_mean.specs.Setting.{Setting, row_frame}
 use Rattle.lb_mean.specs.Conditions.{outputs}
 use Rattle.lb_mean.specs.Expressions.{all_values}
-use Rattle.lb_mean.specs.Joined.{correlation_of, piece}
+use Rattle.lb_mean.specs.Joined.{piece}
+use Rattle.lb_names.specs.Sights.{correlation}
 use Rattle.lb_mean.specs.Queries.{where_true}
 use Rattle.lb_mean.specs.Meaning.{says, means}
 use Rattle.lb_mean.specs.Visible.{is_visible, is_permitted}
 use Rattle.lb_mean.specs.Refused.{policy_of_table}
 use Rattle.lb_mean.specs.Frame.{Agrees, SameIn}
-use Rattle.lb_mean.specs.Laws.{SameMention, SameRecord, SameStored, mention_of, mentioned_by_columns, mentioned_by_permissions, mentioned_by_masks}
+use Rattle.lb_mean.specs.Laws.{SameMention, SameNamed, SameStored, mention_of, mentioned_by_columns, mentioned_by_permissions, mentioned_by_masks}
 use Rattle.lb_mean.proofs.Agreeing.{first, second, weaker}
 use Rattle.lb_mean.proofs.Meant.{expr_of_session, cond_of_session}
 use Rattle.lb_mean.proofs.Seen.{G, H, W, V, Same, mention_same, visible_same, allowed_same, query_same, from_keys, chosen_same}
 use Rattle.lb_mean.proofs.Access.{policy_of_same}
 use Rattle.lb_mean.proofs.Across.{across_frame}
-use Rattle.lb_answer.specs.OrRefused.{OrRefused}
+use Rattle.lb_cat.specs.OrRefused.{OrRefused, ◌>>=◌}
 use Rattle.lb_answer.specs.Answer.{done, unless_refused, with_target, places_given, places_of, insert_into, update_in, delete_from}
 use Rattle.lb_answer.specs.Bases.{label_failure, label_held, masked_values, values_basis}
 use Rattle.lb_answer.specs.Checks.{new_row}
-use Rattle.lb_answer.specs.OrRefused.{◌>>=◌, all_made}
+use Rattle.lb_answer.specs.OrRefused.{all_made}
 use Rattle.lb_answer.specs.Writes.{Written, updated, deleted, inserted, is_unique, is_within_cells}
 use Rattle.lb_answer.specs.Laws.{StatementFrame, StatementsAcross}
 use Rattle.lb_answer.proofs.Refusing.{set_masked, query_masked, insert_refused_same, update_refused_same, delete_refused_same}
@@ -80,14 +81,14 @@ module _ (C D : Cat) (c : Cred) (T U : Tables) (day : ℤ) where
     rest = mentioned_by_columns t.columns ++ (mentioned_by_permissions t.permissions ++ mentioned_by_masks t.masks)
 
     after : Same C D c T U day rest
-    after = second (SameRecord C D T U) (mention_of t.policy) rest stored
+    after = second (SameNamed C D T U) (mention_of t.policy) rest stored
 
     columns : Same C D c T U day (mentioned_by_columns t.columns)
-    columns = first (SameRecord C D T U) (mentioned_by_columns t.columns) (mentioned_by_permissions t.permissions ++ mentioned_by_masks t.masks) after
+    columns = first (SameNamed C D T U) (mentioned_by_columns t.columns) (mentioned_by_permissions t.permissions ++ mentioned_by_masks t.masks) after
 
     permissions : Same C D c T U day (mentioned_by_permissions t.permissions)
-    permissions = first (SameRecord C D T U) (mentioned_by_permissions t.permissions) (mentioned_by_masks t.masks)
-        (second (SameRecord C D T U) (mentioned_by_columns t.columns) (mentioned_by_permissions t.permissions ++ mentioned_by_masks t.masks) after)
+    permissions = first (SameNamed C D T U) (mentioned_by_permissions t.permissions) (mentioned_by_masks t.masks)
+        (second (SameNamed C D T U) (mentioned_by_columns t.columns) (mentioned_by_permissions t.permissions ++ mentioned_by_masks t.masks) after)
 
     sees_alike : is_visible w t ≡ is_visible v t
     sees_alike = λ i row. visible_same C D c T U day t row columns permissions i
@@ -125,8 +126,8 @@ module _ (C D : Cat) (c : Cred) (T U : Tables) (day : ℤ) where
       filter : option_map (says g) u.filter ≡ option_map (says h) u.filter
       filter = where_alike u.filter (second (SameMention C D T U) (flat_map in_assignment u.assignments) (in_where u.filter) k)
 
-      old : (row : List Value) → row_frame (piece (g.sources u.target.table) (correlation_of u.target) row ∷ []) ≡ row_frame (piece (h.sources u.target.table) (correlation_of u.target) row ∷ [])
-      old row = λ i. row_frame (piece (mention_same C D c T U day (table u.target.table) target i) (correlation_of u.target) row ∷ [])
+      old : (row : List Value) → row_frame (piece (g.sources u.target.table) (correlation u.target) row ∷ []) ≡ row_frame (piece (h.sources u.target.table) (correlation u.target) row ∷ [])
+      old row = λ i. row_frame (piece (mention_same C D c T U day (table u.target.table) target i) (correlation u.target) row ∷ [])
 
   -- ---- DELETE
 
@@ -134,7 +135,7 @@ module _ (C D : Cat) (c : Cred) (T U : Tables) (day : ℤ) where
   delete_alike d t target stored k = λ i. deleted (policy_alike t stored i)
       (record {
         sees = sees_alike t stored i;
-        keeps = λ row. where_true (where_alike d.filter k i) (row_frame (piece (mention_same C D c T U day (table d.target.table) target i) (correlation_of d.target) row ∷ []) ∷ []);
+        keeps = λ row. where_true (where_alike d.filter k i) (row_frame (piece (mention_same C D c T U day (table d.target.table) target i) (correlation d.target) row ∷ []) ∷ []);
         values = λ row. Ok [];
         masked = λ row. [];
         permits = permits_alike t stored i;

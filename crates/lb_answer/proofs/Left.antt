@@ -12,7 +12,7 @@ use Rattle.lb_mean.specs.Output.{rows_told}
 use Rattle.lb_mean.specs.Visible.{guarded}
 use Rattle.lb_answer.specs.Answer.{Answered, done, unless_refused, with_target, insert_into, update_in, delete_from}
 use Rattle.lb_answer.specs.Before.{insert_refused, update_refused, delete_refused}
-use Rattle.lb_answer.specs.OrRefused.{OrRefused}
+use Rattle.lb_cat.specs.OrRefused.{OrRefused}
 use Rattle.lb_answer.specs.Writes.{Written}
 use Rattle.lb_answer.specs.Laws.{is_write, has_version, WroteExactly}
 

@@ -25,7 +25,8 @@ use Rattle.lb_mean.specs.Answer.{Checks}
 use Rattle.lb_mean.specs.Setting.{Setting, row_frame}
 use Rattle.lb_mean.specs.Conditions.{outputs}
 use Rattle.lb_mean.specs.Expressions.{all_values}
-use Rattle.lb_mean.specs.Joined.{correlation_of, piece}
+use Rattle.lb_mean.specs.Joined.{piece}
+use Rattle.lb_names.specs.Sights.{correlation}
 use Rattle.lb_mean.specs.Queries.{where_true}
 use Rattle.lb_mean.specs.Meaning.{says, means}
 use Rattle.lb_mean.specs.Uses.{uses_in, uses_in_query, from_item}
@@ -36,7 +37,8 @@ use Rattle.lb_mean.specs.Laws.{SameHeldIn}
 use Rattle.lb_mean.proofs.Agreeing.{first, second}
 use Rattle.lb_mean.proofs.Holding.{Holds, policy_alike}
 use Rattle.lb_mean.proofs.Sessions.{W, V, G, H, allowed_same, visible_same, columns, permissions, mention_same, seen_all, expr_means, cond_says, body_same, chosen_same, query_same}
-use Rattle.lb_answer.specs.OrRefused.{OrRefused, ◌>>=◌, all_made}
+use Rattle.lb_answer.specs.OrRefused.{all_made}
+use Rattle.lb_cat.specs.OrRefused.{OrRefused, ◌>>=◌}
 use Rattle.lb_answer.specs.Answer.{answer, done, unless_refused, with_target, places_given, places_of, insert_into, update_in, delete_from}
 use Rattle.lb_answer.specs.Bases.{label_failure, label_held, masked_among, values_basis}
 use Rattle.lb_answer.specs.Checks.{new_row}
@@ -86,8 +88,8 @@ module _ (C : Cat) (c : Cred) (labels : List CredLabel) (T : Tables) (day : ℤ)
     own_alike = own_same c labels (policy_of_table C t) (policy_alike c labels C t stored)
 
   -- the row that an UPDATE or DELETE tests
-  old_alike : (tab : Tab) → Holds c labels C (table tab.table) → (row : List Value) → row_frame (piece (g.sources tab.table) (correlation_of tab) row ∷ []) ≡ row_frame (piece (h.sources tab.table) (correlation_of tab) row ∷ [])
-  old_alike tab target row = λ i. row_frame (piece (mention_same C c labels T day (table tab.table) target i) (correlation_of tab) row ∷ [])
+  old_alike : (tab : Tab) → Holds c labels C (table tab.table) → (row : List Value) → row_frame (piece (g.sources tab.table) (correlation tab) row ∷ []) ≡ row_frame (piece (h.sources tab.table) (correlation tab) row ∷ [])
+  old_alike tab target row = λ i. row_frame (piece (mention_same C c labels T day (table tab.table) target i) (correlation tab) row ∷ [])
 
   -- ---- UPDATE
 

@@ -21,7 +21,7 @@ use Rattle.lb_mean.specs.Answer.{Checks, query_answer}
 use Rattle.lb_mean.specs.Ordered.{chosen_by}
 use Rattle.lb_mean.specs.Refused.{policy_of_table}
 use Rattle.lb_mean.specs.Visible.{guarded, unguarded}
-use Rattle.lb_answer.specs.OrRefused.{OrRefused}
+use Rattle.lb_cat.specs.OrRefused.{OrRefused}
 use Rattle.lb_answer.specs.Bases.{update_basis, delete_basis, values_basis, query_basis}
 use Rattle.lb_answer.specs.Before.{insert_refused, update_refused, delete_refused}
 use Rattle.lb_answer.specs.Writes.{Written, updated, deleted, inserted}

@@ -20,7 +20,8 @@ use Rattle.lb_mean.specs.Setting.{Setting, Piece, JoinedRow, Frame, row_frame}
 use Rattle.lb_mean.specs.Labels.{write_failure}
 use Rattle.lb_mean.specs.Environment.{cell_named}
 use Rattle.lb_mean.specs.Conditions.{outputs}
-use Rattle.lb_mean.specs.Joined.{correlation_of, piece}
+use Rattle.lb_mean.specs.Joined.{piece}
+use Rattle.lb_names.specs.Sights.{correlation}
 use Rattle.lb_mean.specs.Queries.{where_true}
 use Rattle.lb_mean.specs.Expressions.{all_values}
 use Rattle.lb_mean.specs.Meaning.{says, means, answers}
@@ -70,7 +71,7 @@ masked_among C f uses = flat_map (masked_values f) (filter_map (masked_use C) us
 module _ (C : Cat) (c : Cred) (W S : Setting) (t : Table) (p : Option Policy) where
   -- the row that an UPDATE or DELETE tests, under the target's correlation name
   abbrev pub target_row : Tab → List Value → Frame
-  target_row tab row = row_frame (piece (S.sources tab.table) (correlation_of tab) row ∷ [])
+  target_row tab row = row_frame (piece (S.sources tab.table) (correlation tab) row ∷ [])
 
   -- WHERE is true for the row
   abbrev pub is_kept : Tab → Option Cond → List Value → Evaluated Bool

@@ -7,7 +7,8 @@ use Rattle.lb_base.specs.Evaluated.{Evaluated}
 use Rattle.lb_label.specs.declared.access.Fail.{Fail}
 use Rattle.lb_cat.specs.declared.refusal.Refusal.TheVariants as refusals
 use Rattle.lb_answer.specs.Keys.{is_one_key}
-use Rattle.lb_answer.specs.OrRefused.{OrRefused, Passed, ◌>>=◌, or_refused}
+use Rattle.lb_answer.specs.OrRefused.{Passed, or_refused}
+use Rattle.lb_cat.specs.OrRefused.{OrRefused, ◌>>=◌}
 
 -- a masked column in a value: its mask, the column's own value in the row that is used, and what the mask's CASE gives for that row
 pub record MaskedValue : Type 0 where

@@ -12,7 +12,8 @@ use Rattle.lb_cat.specs.declared.refusal.Refusal.TheVariants as refusals
 use Rattle.lb_cat.specs.Catalog.{Table, Policy}
 use Rattle.lb_mean.specs.Refused.{component_at}
 use Rattle.lb_answer.specs.Basis.{Basis, shows_own}
-use Rattle.lb_answer.specs.OrRefused.{OrRefused, Passed, ◌>>=◌, or_refused, all_passed}
+use Rattle.lb_answer.specs.OrRefused.{Passed, or_refused, all_passed}
+use Rattle.lb_cat.specs.OrRefused.{OrRefused, ◌>>=◌}
 
 -- ---- 1. the values
 

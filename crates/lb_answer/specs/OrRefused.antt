@@ -2,17 +2,8 @@
 use Rattle.std.specs.Prelude.{List, [], ◌∷◌, Result, Ok, Err}
 use Rattle.lb_base.specs.Evaluated.{Evaluated}
 use Rattle.lb_cat.specs.declared.refusal.Refusal.{Refusal}
+use Rattle.lb_cat.specs.OrRefused.{OrRefused, ◌>>=◌}
 use Rattle.lb_mean.specs.Answer.{refusal_for}
-
--- a result, or a refusal
-abbrev pub OrRefused : Type 0 → Type 0
-OrRefused A = Result A Refusal
-
-infixl 10 ◌>>=◌
--- what goes on with the result; a refusal ends all
-abbrev pub ◌>>=◌ : {A B : Type 0} → OrRefused A → (A → OrRefused B) → OrRefused B
-Ok x >>= f = f x
-Err refusal >>= f = Err refusal
 
 -- what was evaluated, or its fault as a refusal
 abbrev pub or_refused : {A : Type 0} → Evaluated A → OrRefused A

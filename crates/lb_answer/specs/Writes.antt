@@ -5,7 +5,8 @@ use Rattle.lb_base.specs.Evaluated.{Evaluated}
 use Rattle.lb_cat.specs.declared.refusal.LimitOf.TheVariants as limits
 use Rattle.lb_cat.specs.declared.refusal.Refusal.TheVariants as refusals
 use Rattle.lb_cat.specs.Catalog.{Table, Policy}
-use Rattle.lb_answer.specs.OrRefused.{OrRefused, Passed, ◌>>=◌, or_refused, all_made, all_passed}
+use Rattle.lb_answer.specs.OrRefused.{Passed, or_refused, all_made, all_passed}
+use Rattle.lb_cat.specs.OrRefused.{OrRefused, ◌>>=◌}
 use Rattle.lb_answer.specs.Basis.{Basis}
 use Rattle.lb_answer.specs.Candidates.{Marked, candidates, taken_rows, other_rows}
 use Rattle.lb_answer.specs.Checks.{new_row, is_writable}

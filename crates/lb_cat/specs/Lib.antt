@@ -5,3 +5,4 @@ pub mod Keys
 pub mod Privileges
 pub mod Stamps
 pub mod Numbers
+pub mod OrRefused

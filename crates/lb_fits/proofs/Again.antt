@@ -13,14 +13,14 @@ use Rattle.lb_rows.specs.Tables.{Tables, Version, put_version, rows_in, rows_of}
 use Rattle.lb_mean.specs.Answer.{Checks}
 use Rattle.lb_answer.specs.Answer.{Answered, answer, done, unless_refused, with_target, insert_into, update_in, delete_from}
 use Rattle.lb_answer.specs.Before.{insert_refused, update_refused, delete_refused}
-use Rattle.lb_answer.specs.OrRefused.{OrRefused}
+use Rattle.lb_cat.specs.OrRefused.{OrRefused}
 use Rattle.lb_answer.specs.Writes.{Written}
 use Rattle.lb_alter.specs.Fits.{FitsTable, RowsFit}
 use Rattle.lb_alter.specs.Laws.{AllTablesFit}
 use Rattle.lb_alter.specs.Named.{HasTable}
 use Rattle.lb_alter.specs.Labelled.{HasItsShape}
 use Rattle.lb_alter.specs.Sound.{IsSound}
-use Rattle.lb_alter.specs.Stored.{Checks as Rules}
+use Rattle.lb_alter.specs.Stored.{StoredRules}
 use Rattle.lb_alter.proofs.SoundUsers.{all_found}
 use Rattle.lb_alter.proofs.SoundTables.{put_case, found_put}
 use Rattle.lb_kinds.specs.Agreement.{RowFits, LabelsFit}
@@ -90,7 +90,7 @@ module _ (N : Catalogue) (C : Cat) (T : Tables) (v : Version) (knows : Knows N C
 
 -- ---- names and types know the rows that fit
 
-module _ (rules : Rules) (C : Cat) (s : IsSound rules C) where
+module _ (rules : StoredRules) (C : Cat) (s : IsSound rules C) where
   labels_fit : (n : List ℕ) (o : Option Policy) → policy_named C n ≡ o → LabelsFit o
   labels_fit n None e = tt
   labels_fit n (Some p) e = let h : HasItsShape C p = all_found (HasItsShape C) (is_policy n) C.policies p s.shapes e in h.labels

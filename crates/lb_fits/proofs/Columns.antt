@@ -10,7 +10,7 @@ use Rattle.lb_cat.specs.Catalog.{Cat, Table, policy_named}
 use Rattle.lb_answer.specs.Checks.{written, with_label, begun, label_place}
 use Rattle.lb_alter.specs.Fits.{HasType, FitsColumn}
 use Rattle.lb_kinds.specs.HasKind.{HasKind}
-use Rattle.lb_kinds.specs.Settings.{kind_of}
+use Rattle.lb_names.specs.Kinds.{kind_of}
 use Rattle.lb_fits.specs.Given.{FitsKind, FitsKindIfThere, ArePlaced, OldFits}
 
 module _ (C : Cat) where

@@ -18,7 +18,8 @@ use Rattle.lb_answer.specs.Before.{delete_refused}
 use Rattle.lb_answer.specs.Candidates.{Marked, candidates, taken_rows, other_rows}
 use Rattle.lb_answer.specs.Checks.{is_writable}
 use Rattle.lb_answer.specs.Laws.{AreRows}
-use Rattle.lb_answer.specs.OrRefused.{◌>>=◌, or_refused, all_passed}
+use Rattle.lb_answer.specs.OrRefused.{or_refused, all_passed}
+use Rattle.lb_cat.specs.OrRefused.{◌>>=◌}
 use Rattle.lb_answer.specs.Writes.{Written}
 use Rattle.lb_alter.specs.Fits.{FitsTable, RowsFit}
 use Rattle.lb_fits.specs.Laws.{DeletedFits, DeletesFit}

@@ -9,7 +9,7 @@ use Rattle.lb_tree.specs.declared.query.Tab.{Tab}
 use Rattle.lb_stmt.specs.declared.write.Assignment.{Assignment}
 use Rattle.lb_cat.specs.declared.catalog.ColumnRec.{ColumnRec}
 use Rattle.lb_cat.specs.Catalog.{Cat, Table, policy_named}
-use Rattle.lb_names.specs.Kinds.{Kind}
+use Rattle.lb_names.specs.Kinds.{Kind, kind_of}
 use Rattle.lb_names.specs.Sights.{Name, or_name}
 use Rattle.lb_names.specs.Scopes.{Field, Catalogue, field_named}
 use Rattle.lb_names.specs.Typed.{Typed, only_if, ◌>>=◌}
@@ -21,7 +21,7 @@ use Rattle.lb_answer.specs.Answer.{places_of}
 use Rattle.lb_kinds.specs.Agreement.{RowFits, CellsFit}
 use Rattle.lb_kinds.specs.Days.{days_in, AreDays}
 use Rattle.lb_kinds.specs.HasKind.{Policies, HasKind, GivesKind, IfResult}
-use Rattle.lb_kinds.specs.Settings.{kind_of, SameColumn}
+use Rattle.lb_kinds.specs.Settings.{SameColumn}
 use Rattle.lb_fits.specs.Given.{ArePlaced}
 use Rattle.lb_fits.proofs.Columns.{Loose}
 use Rattle.lb_fits.proofs.Targets.{Missing, Column, look, Holds, holds, none_placed, value_placed, one_more, each_placed}

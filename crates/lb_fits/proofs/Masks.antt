@@ -11,13 +11,14 @@ use Rattle.lb_names.specs.Statements.{mask_types_refused}
 use Rattle.lb_alter.specs.Columns.{HasItsColumns}
 use Rattle.lb_alter.specs.Named.{are_different}
 use Rattle.lb_alter.specs.Sound.{IsSound}
-use Rattle.lb_alter.specs.Stored.{Checks as Rules}
+use Rattle.lb_alter.specs.Stored.{StoredRules}
 use Rattle.lb_alter.specs.Valid.{TypesAt, IsValidMask, StoresValid, called}
 use Rattle.lb_alter.proofs.SoundTables.{itself}
 use Rattle.lb_alter.proofs.SoundUsers.{all_found}
 use Rattle.lb_alter.proofs.Untouched.{turned, or_left, or_right, named_there}
 use Rattle.lb_kinds.specs.Given.{CheckedMasksFit}
-use Rattle.lb_kinds.specs.Settings.{kind_of, SameColumn, MasksFit, columns_in}
+use Rattle.lb_kinds.specs.Settings.{SameColumn, MasksFit, columns_in}
+use Rattle.lb_names.specs.Kinds.{kind_of}
 use Rattle.lb_fits.specs.Masks.{RefusesUntypedMasks, HasDays, MasksHaveDays, SoundMasksFit}
 use Rattle.lb_fits.proofs.Steps.{left_true, right_true, not_false}
 
@@ -82,7 +83,7 @@ controlled false o m e = absurd cc
 -- ---- the masks of a table
 
 module _ (checked : CheckedMasksFit) where
-  table_masks : (rules : Rules) (N : Catalogue) (C : Cat) → IsSound rules C → RefusesUntypedMasks rules N C → AllByRecursion MasksHaveDays C.tables → (n : List ℕ)
+  table_masks : (rules : StoredRules) (N : Catalogue) (C : Cat) → IsSound rules C → RefusesUntypedMasks rules N C → AllByRecursion MasksHaveDays C.tables → (n : List ℕ)
       → (o : Option Table) → table_named C n ≡ o → AllZip SameColumn (listed (N.columns n)) (columns_in o) → MasksFit N n o
   table_masks rules N C s typed days n None e same = tt
   table_masks rules N C s typed days n (Some t) e same = λ at c m there mask.

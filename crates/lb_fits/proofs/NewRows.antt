@@ -14,13 +14,14 @@ use Rattle.lb_rows.specs.KeyValues.{is_null}
 use Rattle.lb_mean.specs.Refused.{policy_of_table}
 use Rattle.lb_answer.specs.Basis.{Basis}
 use Rattle.lb_answer.specs.Checks.{made, begun, written, value_fits, values_fit, row_fits, old_writable, labelled, labelled_at, label_place, label_at, stored_label, masks_show_own, is_allowed}
-use Rattle.lb_answer.specs.OrRefused.{OrRefused, Passed, ◌>>=◌, or_refused}
+use Rattle.lb_answer.specs.OrRefused.{Passed, or_refused}
+use Rattle.lb_cat.specs.OrRefused.{OrRefused, ◌>>=◌}
 use Rattle.lb_alter.specs.ChangeTable.{is_label_type, is_label_column}
 use Rattle.lb_alter.specs.Fits.{IsLabelOf, HasType, FitsColumn, FitsTable}
 use Rattle.lb_alter.specs.Labelled.{IsOfPolicy, ColumnBelongs}
 use Rattle.lb_alter.proofs.SoundKinds.{not_more}
 use Rattle.lb_kinds.specs.HasKind.{HasKind, IfResult}
-use Rattle.lb_kinds.specs.Settings.{kind_of}
+use Rattle.lb_names.specs.Kinds.{kind_of}
 use Rattle.lb_fits.specs.Given.{IsItsLabel, IsNullOrItsLabel, OwnFits, GivesPlaces, ArePlaced, KeepsColumns, OldFits}
 use Rattle.lb_fits.specs.Laws.{NewFits}
 use Rattle.lb_fits.proofs.Columns.{Loose, begun_fits, written_fits}

@@ -6,7 +6,7 @@ use Rattle.lb_cat.specs.declared.reply.Verb.{Verb}
 use Rattle.lb_cat.specs.Catalog.{Cat, Table, table_named}
 use Rattle.lb_rows.specs.Tables.{Tables, Version, is_version, put_version, rows_in, rows_of}
 use Rattle.lb_answer.specs.Answer.{Answered, done, unless_refused, with_target}
-use Rattle.lb_answer.specs.OrRefused.{OrRefused}
+use Rattle.lb_cat.specs.OrRefused.{OrRefused}
 use Rattle.lb_answer.specs.Writes.{Written}
 use Rattle.lb_alter.specs.Fits.{FitsRecord, RowsFit}
 use Rattle.lb_alter.specs.Laws.{AllTablesFit}

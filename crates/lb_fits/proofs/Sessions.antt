@@ -17,11 +17,11 @@ use Rattle.lb_alter.specs.Columns.{HasItsColumns, HasOneLabelColumn}
 use Rattle.lb_alter.specs.Fits.{IsLabelIfHeld, FitsPolicy, FitsIfThere, CredFits}
 use Rattle.lb_alter.specs.Labelled.{LabelsBelong}
 use Rattle.lb_alter.specs.Sound.{IsSound}
-use Rattle.lb_alter.specs.Stored.{Checks as Rules}
+use Rattle.lb_alter.specs.Stored.{StoredRules}
 use Rattle.lb_alter.proofs.SoundUsers.{all_found}
 use Rattle.lb_fits.specs.Given.{OwnFits, KeepsColumns}
 
-pub keeps_columns : (rules : Rules) (C : Cat) → IsSound rules C → (n : List ℕ) (t : Table) → table_named C n ≡ Some t → KeepsColumns C t
+pub keeps_columns : (rules : StoredRules) (C : Cat) → IsSound rules C → (n : List ℕ) (t : Table) → table_named C n ≡ Some t → KeepsColumns C t
 keeps_columns rules C s n t e =
     let l : HasOneLabelColumn t = all_found HasOneLabelColumn (is_table n) C.tables t s.label_columns e in
     let b : LabelsBelong C t = all_found (LabelsBelong C) (is_table n) C.tables t s.belonging e in

@@ -13,7 +13,7 @@ use Rattle.lb_stmt.specs.declared.write.Stmt.TheVariants as stmts
 use Rattle.lb_cat.specs.declared.cred.Cred.{Cred}
 use Rattle.lb_cat.specs.declared.reply.Verb.TheVariants as verbs
 use Rattle.lb_cat.specs.Catalog.{Cat, Table, Policy, table_named, policy_named}
-use Rattle.lb_names.specs.Kinds.{Kind}
+use Rattle.lb_names.specs.Kinds.{Kind, kind_of}
 use Rattle.lb_names.specs.Scopes.{Field, Catalogue, listed}
 use Rattle.lb_names.specs.Typed.{Typed, ◌>>=◌}
 use Rattle.lb_names.specs.Places.{outermost}
@@ -23,7 +23,8 @@ use Rattle.lb_names.specs.OrderTyping.{select_typed, outermost_role, keys_typed,
 use Rattle.lb_rows.specs.Tables.{Tables, rows_of}
 use Rattle.lb_mean.specs.Answer.{Checks}
 use Rattle.lb_mean.specs.Conditions.{outputs}
-use Rattle.lb_mean.specs.Joined.{correlation_of, piece}
+use Rattle.lb_mean.specs.Joined.{piece}
+use Rattle.lb_names.specs.Sights.{correlation}
 use Rattle.lb_mean.specs.Meaning.{answers}
 use Rattle.lb_mean.specs.Ordered.{chosen_by}
 use Rattle.lb_mean.specs.Refused.{policy_of_table}
@@ -43,7 +44,7 @@ use Rattle.lb_kinds.specs.Given.{ValuesFit, AssignmentsFit}
 use Rattle.lb_kinds.specs.HasKind.{HasKind, GivesKinds, HasKinds, IfResult}
 use Rattle.lb_kinds.specs.Inserted.{InsertedRowsFit}
 use Rattle.lb_kinds.specs.Selected.{SelectsGiveTheirKinds}
-use Rattle.lb_kinds.specs.Settings.{kind_of, columns_in, SameColumn, Knows, GuardedAgrees}
+use Rattle.lb_kinds.specs.Settings.{columns_in, SameColumn, Knows, GuardedAgrees}
 use Rattle.lb_kinds.specs.Standing.{PieceFits, HoldsFor}
 use Rattle.lb_fits.specs.Given.{GivesPlaces}
 use Rattle.lb_fits.specs.Statements.{IsReady, SourceHasDays, UpdatesFit, InsertsFit, WritesFit}
@@ -76,14 +77,14 @@ module _ (are_rows : (b : Basis (List Value)) (rows : List (List Value)) (marks 
       (keeps_columns rules C begins.sound u.target.table t e) (own_fits C c begins.credentials t)
       (λ row f.
       let fit : RowFits (policy_named C) fields row = of_fields C fields t.columns row same (loosely C t.columns row f) in
-      let p : PieceFits N S u.target (piece (S.sources u.target.table) (correlation_of u.target) row) = record {
+      let p : PieceFits N S u.target (piece (S.sources u.target.table) (correlation u.target) row) = record {
         correlation = same_call u.target.correlation u.target.table;
         columns = refl;
         cells = cells_fit (policy_named C) fields row fit;
         shown = (agrees.tables u.target.table).shown row fit;
       } in
-      let env : Env = row_frame (piece (S.sources u.target.table) (correlation_of u.target) row ∷ []) ∷ [] in
-      let holds : HoldsFor N S (set_place u.target) None env = target_holds N S (set_place u.target) u.target refl (piece (S.sources u.target.table) (correlation_of u.target) row) p in
+      let env : Env = row_frame (piece (S.sources u.target.table) (correlation u.target) row ∷ []) ∷ [] in
+      let holds : HoldsFor N S (set_place u.target) None env = target_holds N S (set_place u.target) u.target refl (piece (S.sources u.target.table) (correlation u.target) row) p in
       set_placed N S C t env fields same u.target u.assignments 0 b.it b.is (assignments_fit N S agrees u.target env holds fields u.assignments days 0 b.it b.is))
       (rows_there C T begins.tables u.target.table t e) h)
 

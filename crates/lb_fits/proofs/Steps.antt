@@ -1,7 +1,8 @@
 -- Steps of writes that gave a result, taken apart.
 use Rattle.std.proofs.Common.{◌≡◌, refl, ap, Bool, true, false, ◌&&◌, not, Ok, Err}
 use Rattle.lb_base.specs.Evaluated.{Evaluated}
-use Rattle.lb_answer.specs.OrRefused.{OrRefused, ◌>>=◌, or_refused}
+use Rattle.lb_answer.specs.OrRefused.{or_refused}
+use Rattle.lb_cat.specs.OrRefused.{OrRefused, ◌>>=◌}
 
 -- what a step gave, and what followed from it
 pub record Got {A B : Type 0} (out : OrRefused A) (f : A → OrRefused B) (y : B) : Type 0 where

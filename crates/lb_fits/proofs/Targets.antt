@@ -7,12 +7,12 @@ use Rattle.lb_base.specs.declared.value.Value.{Value}
 use Rattle.lb_base.specs.Evaluated.{Evaluated, ◌>>=◌, each}
 use Rattle.lb_cat.specs.declared.catalog.ColumnRec.{ColumnRec}
 use Rattle.lb_cat.specs.Catalog.{Cat, Table, policy_named, is_column}
-use Rattle.lb_names.specs.Kinds.{Kind}
+use Rattle.lb_names.specs.Kinds.{Kind, kind_of}
 use Rattle.lb_names.specs.Scopes.{Field, field_named}
 use Rattle.lb_names.specs.Statements.{given, kind_in, kinds_wanted}
 use Rattle.lb_answer.specs.Answer.{places_of, places_given}
 use Rattle.lb_kinds.specs.HasKind.{HasKind, GivesKind, IfResult}
-use Rattle.lb_kinds.specs.Settings.{kind_of, SameColumn}
+use Rattle.lb_kinds.specs.Settings.{SameColumn}
 use Rattle.lb_fits.specs.Given.{FitsKindIfThere, FitsPlace, ArePlaced}
 
 -- a name that neither knows

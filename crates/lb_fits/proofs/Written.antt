@@ -13,7 +13,8 @@ use Rattle.lb_answer.specs.Candidates.{Marked, candidates, taken_rows}
 use Rattle.lb_answer.specs.Checks.{new_row}
 use Rattle.lb_answer.specs.Keys.{has_double}
 use Rattle.lb_answer.specs.Laws.{AreRows}
-use Rattle.lb_answer.specs.OrRefused.{OrRefused, Passed, ◌>>=◌, or_refused, all_made}
+use Rattle.lb_answer.specs.OrRefused.{Passed, or_refused, all_made}
+use Rattle.lb_cat.specs.OrRefused.{OrRefused, ◌>>=◌}
 use Rattle.lb_answer.specs.Writes.{Written, renewed, is_unique, is_within_cells, cell_limit, updated}
 use Rattle.lb_alter.specs.Fits.{FitsTable, RowsFit}
 use Rattle.lb_alter.proofs.SoundKinds.{not_more}

@@ -10,7 +10,7 @@ use Rattle.lb_alter.specs.Columns.{HasKeyColumn}
 use Rattle.lb_alter.specs.Fits.{IsLabelOf, FitsTable}
 use Rattle.lb_alter.specs.Labelled.{LabelsBelong}
 use Rattle.lb_kinds.specs.HasKind.{HasKind, IfResult}
-use Rattle.lb_kinds.specs.Settings.{kind_of}
+use Rattle.lb_names.specs.Kinds.{kind_of}
 
 -- ---- labels
 

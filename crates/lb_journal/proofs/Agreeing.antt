@@ -8,7 +8,7 @@ use Rattle.lb_base.specs.Names.{IsFolded}
 use Rattle.lb_cat.specs.Catalog.{Cat, Policy, is_policy, table_named, policy_named, label_named}
 use Rattle.lb_names.specs.Mentions.{Mentions, table, policy, label, tables_in, policies_in}
 use Rattle.lb_names.specs.Agreeing.{Agree, AgreeOn}
-use Rattle.lb_alter.specs.Deps.{in_tables, policy_of_table, is_key_name, tables_for, deps_of}
+use Rattle.lb_alter.specs.Deps.{in_tables, policy_name_of, is_key_name, tables_for, deps_of}
 use Rattle.lb_alter.specs.Frame.{SameOn}
 use Rattle.lb_alter.specs.Named.{HasFoldedNames}
 use Rattle.lb_alter.proofs.SoundUsers.{all_found}
@@ -69,5 +69,5 @@ module _ (C D : Cat) (names_C : HasFoldedNames C) (names_D : HasFoldedNames D) w
   pub agree_on : (ms : Mentions) → SameOn (deps_of C ms) C D → AgreeOn (named_in C) (named_in D) ms
   agree_on ms same =
       let tables = all_front SameTable (tables_in ms) _ (tables_same C D ms same) in
-      let called = all_after SamePolicy (filter_map (λ n. policy_of_table (table_named C n)) (tables_for C ms)) _ (policies_same C D ms same) in
+      let called = all_after SamePolicy (filter_map (λ n. policy_name_of (table_named C n)) (tables_for C ms)) _ (policies_same C D ms same) in
       agree_all ms tables (all_front SamePolicy (policies_in ms) _ (policies_all (policies_in ms ++ policies_in (in_tables C (tables_in ms))) called))

@@ -11,7 +11,7 @@ use Rattle.lb_names.specs.Agreeing.{AgreeOn}
 use Rattle.lb_names.proofs.NamesFrame.{names_same}
 use Rattle.lb_names.proofs.TypesFrame.{types_same}
 use Rattle.lb_mean.specs.Frame.{Agrees}
-use Rattle.lb_mean.specs.Laws.{SameRecord, SameStored, SameMention}
+use Rattle.lb_mean.specs.Laws.{SameNamed, SameStored, SameMention}
 use Rattle.lb_answer.proofs.Framed.{statements_across}
 use Rattle.lb_alter.specs.Deps.{deps_of, tables_for}
 use Rattle.lb_alter.specs.Frame.{SameOn}
@@ -31,7 +31,7 @@ SameTable C D T U n = (table_named D n ≡ table_named C n) × (rows_of n T ≡ 
 pub mentions_same : (C D : Cat) (T U : Tables) → IsSound stored_rules C → IsSound stored_rules D → (ms : Mentions) → SameOn (deps_of C ms) C D
     → AllByRecursion (SameTable C D T U) (tables_for C ms) → Agrees (SameMention C D T U) ms
 mentions_same C D T U sound sound_D ms same tables =
-    all_agree C (SameRecord C D T U) (SameMention C D T U) (SameStored C D T U) (SameTable C D T U) (λ p. policy_named D p ≡ policy_named C p)
+    all_agree C (SameNamed C D T U) (SameMention C D T U) (SameStored C D T U) (SameTable C D T U) (λ p. policy_named D p ≡ policy_named C p)
     (λ n t. (sym t.0, t.1)) (λ p e. sym e) (λ p l e. sym e) tt (λ t h. h) (λ n t h. ((sym t.0, t.1), h)) (λ p e. sym e) (λ p l e. sym e) sound ms
     tables (of_owners C D sound sound_D ms same) (of_calls C D sound sound_D ms same)
 

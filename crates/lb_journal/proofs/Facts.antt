@@ -7,18 +7,18 @@ use Rattle.lb_tree.specs.declared.query.Tab.{Tab}
 use Rattle.lb_cat.specs.declared.catalog.ColumnRec.{ColumnRec}
 use Rattle.lb_cat.specs.Catalog.{is_column, Cat, Table, Policy, table_named, policy_named, put_table, put_policy}
 use Rattle.lb_names.specs.Mentions.{Mentions, in_cond, in_expr, tables_in, policies_in}
-use Rattle.lb_alter.specs.ChangeControl.{correlation_of}
+use Rattle.lb_names.specs.Sights.{correlation}
 use Rattle.lb_alter.specs.Frame.{SameOn}
 use Rattle.lb_alter.specs.Named.{HasTable, HasPolicy, HasFoldedNames}
 use Rattle.lb_alter.specs.Steady.{stored_deps, IsWider, IsRelabelled, StaysNamed}
-use Rattle.lb_alter.specs.Stored.{Checks}
+use Rattle.lb_alter.specs.Stored.{StoredRules}
 use Rattle.lb_alter.specs.Valid.{KeepsRules, KeepsMaskRules, IsValid, IsValidMask}
 
 -- the tables and policies that are mentioned are there
 abbrev pub HasMentioned : Cat → Mentions → Type 0
 HasMentioned C ms = AllByRecursion (HasTable C) (tables_in ms) × AllByRecursion (HasPolicy C) (policies_in ms)
 
-module _ (K : Checks) where
+module _ (K : StoredRules) where
   -- a condition keeps the rules in both catalogues, where they have the same records under what it depends on
   abbrev pub ReadsNoMore : Type 0
   ReadsNoMore = (C D : Cat) (on : Tab) (c : Cond) → HasFoldedNames C → HasFoldedNames D → SameOn (stored_deps C on (in_cond c)) C D → KeepsRules K C on c → KeepsRules K D on c
@@ -61,8 +61,8 @@ module _ (K : Checks) where
 
   -- the qualified form of a condition that keeps the rules keeps them, over the table by the name that the condition calls it by
   abbrev pub QualifiedKeeps : Type 0
-  QualifiedKeeps = (C : Cat) (t : Table) (on : Tab) (c : Cond) → table_named C on.table ≡ Some t → KeepsRules K C on c → IsValid K C t (record { name = []; correlation = correlation_of on; condition = K.qualified_condition C on c; enabled = true })
+  QualifiedKeeps = (C : Cat) (t : Table) (on : Tab) (c : Cond) → table_named C on.table ≡ Some t → KeepsRules K C on c → IsValid K C t (record { name = []; correlation = correlation on; condition = K.qualified_condition C on c; enabled = true })
 
   -- so does that of a CASE, for the column at its place among the table's
   abbrev pub QualifiedMaskKeeps : Type 0
-  QualifiedMaskKeeps = (C : Cat) (t : Table) (on : Tab) (at : ℕ) (c : ColumnRec) (e : Expr) → table_named C on.table ≡ Some t → position (is_column c.name) t.columns ≡ Some at → slice_get t.columns at ≡ Some c → KeepsMaskRules K C on c.name e → IsValidMask K C t (record { name = []; column = at; correlation = correlation_of on; value = K.qualified_mask C on e; enabled = true })
+  QualifiedMaskKeeps = (C : Cat) (t : Table) (on : Tab) (at : ℕ) (c : ColumnRec) (e : Expr) → table_named C on.table ≡ Some t → position (is_column c.name) t.columns ≡ Some at → slice_get t.columns at ≡ Some c → KeepsMaskRules K C on c.name e → IsValidMask K C t (record { name = []; column = at; correlation = correlation on; value = K.qualified_mask C on e; enabled = true })

@@ -13,7 +13,7 @@ use Rattle.lb_mean.specs.Frame.{Agrees}
 use Rattle.lb_mean.specs.Laws.{mention_of, mentioned_by, mentioned_by_columns, mentioned_by_permissions, mentioned_by_masks}
 use Rattle.lb_mean.specs.Visible.{policy_of_type}
 use Rattle.lb_mean.proofs.Agreeing.{first, second, both}
-use Rattle.lb_alter.specs.Deps.{deps_of, in_table, in_tables, is_key_name, policy_of_table, tables_for}
+use Rattle.lb_alter.specs.Deps.{deps_of, in_table, in_tables, is_key_name, policy_name_of, tables_for}
 use Rattle.lb_alter.specs.Frame.{SameOn}
 use Rattle.lb_alter.specs.Labelled.{ColumnBelongs, IsOfPolicy, LabelsBelong}
 use Rattle.lb_alter.specs.Named.{IfGiven}
@@ -104,15 +104,15 @@ module _
       (policy_agrees t.policy g)
       (both A (mentioned_by_columns t.columns) (mentioned_by_permissions t.permissions ++ mentioned_by_masks t.masks) (columns_agree t t.columns g belong) (by_guards A t h))
 
-  stored_agrees : (n : List ℕ) → IfGiven AtPolicy (policy_of_table (table_named C n)) → Agrees A (in_table (table_named C n)) → In (table_named C n)
+  stored_agrees : (n : List ℕ) → IfGiven AtPolicy (policy_name_of (table_named C n)) → Agrees A (in_table (table_named C n)) → In (table_named C n)
   stored_agrees n = go (table_named C n) refl
     where
-      go : (o : Option Table) → table_named C n ≡ o → IfGiven AtPolicy (policy_of_table o) → Agrees A (in_table o) → In o
+      go : (o : Option Table) → table_named C n ≡ o → IfGiven AtPolicy (policy_name_of o) → Agrees A (in_table o) → In o
       go None e g h = in_none
       go (Some t) e g h = in_some t (table_agrees t (all_found (LabelsBelong C) (is_table n) C.tables t sound.belonging e) g h)
 
   -- all that is mentioned
-  mentions_agree : (ms : Mentions) → AllByRecursion AtTable (tables_in ms) → AllByRecursion (λ (n : List ℕ). IfGiven AtPolicy (policy_of_table (table_named C n))) (tables_in ms)
+  mentions_agree : (ms : Mentions) → AllByRecursion AtTable (tables_in ms) → AllByRecursion (λ (n : List ℕ). IfGiven AtPolicy (policy_name_of (table_named C n))) (tables_in ms)
       → Agrees A (in_tables C (tables_in ms)) → AllByRecursion AtPolicy (policies_in ms) → Agrees M ms
   mentions_agree [] t g h p = tt
   mentions_agree (table n ∷ ms) t g h p = (
@@ -123,13 +123,13 @@ module _
   mentions_agree (label q l ∷ ms) t g h p = (label_with q l p.0, mentions_agree ms t g h p.1)
 
   abbrev HasPolicy : List ℕ → Type 0
-  HasPolicy n = IfGiven AtPolicy (policy_of_table (table_named C n))
+  HasPolicy n = IfGiven AtPolicy (policy_name_of (table_named C n))
 
-  pub all_agree : (ms : Mentions) → AllByRecursion AtTable (tables_for C ms) → AllByRecursion AtPolicy (filter_map (λ n. policy_of_table (table_named C n)) (tables_for C ms))
+  pub all_agree : (ms : Mentions) → AllByRecursion AtTable (tables_for C ms) → AllByRecursion AtPolicy (filter_map (λ n. policy_name_of (table_named C n)) (tables_for C ms))
       → AllByRecursion AtPolicy (policies_in ms ++ policies_in (in_tables C (tables_in ms))) → Agrees M ms
   all_agree ms tables owners calls = mentions_agree ms
       (all_front AtTable (tables_in ms) (tables_in guards) tables)
-      (all_front HasPolicy (tables_in ms) (tables_in guards) (given_by_each AtPolicy (λ n. policy_of_table (table_named C n)) (tables_for C ms) owners))
+      (all_front HasPolicy (tables_in ms) (tables_in guards) (given_by_each AtPolicy (λ n. policy_name_of (table_named C n)) (tables_for C ms) owners))
       (all_are guards (all_after AtTable (tables_in ms) (tables_in guards) tables) (all_after AtPolicy (policies_in ms) (policies_in guards) calls))
       (all_front AtPolicy (policies_in ms) (policies_in guards) calls)
     where
@@ -143,7 +143,7 @@ module _ (C D : Cat) (sound : IsSound stored_rules C) (sound_D : IsSound stored_
   SamePolicy p = policy_named D p ≡ policy_named C p
 
   abbrev owning : List (List ℕ)
-  owning = filter_map (λ n. policy_of_table (table_named C n)) (tables_for C ms)
+  owning = filter_map (λ n. policy_name_of (table_named C n)) (tables_for C ms)
 
   abbrev calling : List (List ℕ)
   calling = policies_in ms ++ policies_in (in_tables C (tables_in ms))

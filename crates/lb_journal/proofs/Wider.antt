@@ -7,7 +7,7 @@ use Rattle.lb_base.specs.declared.key.Ty.{Ty}
 use Rattle.lb_base.specs.declared.key.Ty.TheVariants as types
 use Rattle.lb_cat.specs.declared.catalog.ColumnRec.{ColumnRec}
 use Rattle.lb_cat.specs.Catalog.{Cat, Table, table_named, put_table}
-use Rattle.lb_names.specs.Kinds.{is_label}
+use Rattle.lb_names.specs.Kinds.{is_label, kind_of}
 use Rattle.lb_names.specs.Scopes.{Field}
 use Rattle.lb_names.specs.Typing.{is_listed}
 use Rattle.lb_names.specs.Growing.{is_label_field, IsLonger, IsLongerIfThere, IsGrown}
@@ -17,7 +17,7 @@ use Rattle.lb_names.proofs.GrownRules.{permission_types_stay, mask_types_stay}
 use Rattle.lb_alter.specs.ChangeTable.{is_label_type, is_label_column}
 use Rattle.lb_alter.specs.Steady.{IsSameColumn, IsWider}
 use Rattle.lb_alter.proofs.SoundTables.{put_case}
-use Rattle.lb_journal.specs.Rules.{kind_of_type, field_of, fields_of, named_in, refusal_for, stored_rules}
+use Rattle.lb_journal.specs.Rules.{field_of, fields_of, named_in, refusal_for, stored_rules}
 use Rattle.lb_journal.proofs.Facts.{OutlastsColumns, OutlastsColumnsInMask}
 use Rattle.lb_journal.proofs.Steady.{none_told}
 
@@ -26,9 +26,9 @@ use Rattle.lb_journal.proofs.Steady.{none_told}
 same_fields : (cs ds : List ColumnRec) → AllZip IsSameColumn cs (take (length cs) ds) → map field_of ds ≡ map field_of cs ++ map field_of (drop (length cs) ds)
 same_fields [] ds h = refl
 same_fields (c ∷ cs) [] h = absurd h
-same_fields (c ∷ cs) (d ∷ ds) h = λ i. record { name = h.0.0 i; kind = kind_of_type (h.0.1 i) } ∷ same_fields cs ds h.1 i
+same_fields (c ∷ cs) (d ∷ ds) h = λ i. record { name = h.0.0 i; kind = kind_of (h.0.1 i) } ∷ same_fields cs ds h.1 i
 
-label_kind : (ty : Ty) → is_label (kind_of_type ty) ≡ is_label_type ty
+label_kind : (ty : Ty) → is_label (kind_of ty) ≡ is_label_type ty
 label_kind types.Int = refl
 label_kind (types.Text w) = refl
 label_kind types.Date = refl

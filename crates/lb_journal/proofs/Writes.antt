@@ -9,7 +9,7 @@ use Rattle.lb_base.specs.declared.key.Key.TheVariants as keys
 use Rattle.lb_cat.specs.declared.catalog.Holding.{Holding}
 use Rattle.lb_cat.specs.declared.cred.CredLabel.{CredLabel}
 use Rattle.lb_cat.specs.Catalog.{Cat, Policy, User, policy_named, user_named, no_user}
-use Rattle.lb_cat.specs.Credentials.{label_in, cred_label, cred_of, cred, no_label, is_cred_label_of, held_of}
+use Rattle.lb_cat.specs.Credentials.{held_parts, cred_label, cred_of, cred, no_label, is_cred_label_of, held_of}
 use Rattle.lb_cat.specs.Keys.{same_key, has_key}
 use Rattle.lb_names.specs.Mentions.{in_stmt}
 use Rattle.lb_alter.specs.Deps.{deps, tables_for, write_deps}
@@ -41,7 +41,7 @@ same_all S T ks f e = all_follow (λ (k : Key). T.stamp k ≡ S.stamp k) (λ (k 
 module _ (C D : Cat) (n : List ℕ) (same : policy_named D n ≡ policy_named C n) where
   same_label : (h : Holding) → h.policy ≡ n → cred_label D h ≡ cred_label C h
   same_label h e =
-      ap (λ (o : Option Policy). record { policy = h.policy; read = label_in o h.read; write = label_in o h.write; exempt = h.exempt })
+      ap (λ (o : Option Policy). record { policy = h.policy; read = held_parts o h.read; write = held_parts o h.write; exempt = h.exempt })
       (subst (λ (m : List ℕ). policy_named D m ≡ policy_named C m) (sym e) same)
 
   same_found : (hs : List Holding) → find (is_cred_label_of n) (map (cred_label D) hs) ≡ find (is_cred_label_of n) (map (cred_label C) hs)

@@ -1,8 +1,6 @@
 -- The rules of names and types over the tables and policies of a catalogue, and what changes and answers are under them.
 use Rattle.std.specs.Prelude.{ℕ, ℤ, List, map, find, Option, None, Some, option_map, is_some, Result, Ok, Err}
 use Rattle.std.specs.Option.{option_and_then, option_or}
-use Rattle.lb_base.specs.declared.key.Ty.{Ty}
-use Rattle.lb_base.specs.declared.key.Ty.TheVariants as types
 use Rattle.lb_label.specs.LabelText.{read_label}
 use Rattle.lb_stmt.specs.declared.write.Stmt.{Stmt}
 use Rattle.lb_stmt.specs.declared.change.Change.{Change}
@@ -14,25 +12,18 @@ use Rattle.lb_cat.specs.declared.refusal.Refusal.TheVariants as refusals
 use Rattle.lb_cat.specs.Catalog.{Cat, Table, Policy, is_table, is_policy, label_named}
 use Rattle.lb_names.specs.declared.refused.Refused.{Refused}
 use Rattle.lb_names.specs.declared.refused.Refused.TheVariants as refused
-use Rattle.lb_names.specs.Kinds.{Kind, integer, text, date, label}
+use Rattle.lb_names.specs.Kinds.{kind_of}
 use Rattle.lb_names.specs.Scopes.{Field, Catalogue}
 use Rattle.lb_names.specs.Statements.{names_refused, types_refused, permission_names_refused, permission_types_refused, permission_qualified, mask_names_refused, mask_types_refused, mask_qualified}
 use Rattle.lb_names.specs.Qualified.{are_qualified, are_qualified_in}
-use Rattle.lb_alter.specs.Stored.{Checks}
+use Rattle.lb_alter.specs.Stored.{StoredRules}
 use Rattle.lb_alter.specs.Change.{change}
 use Rattle.lb_alter.specs.Refusing.{Changed}
 use Rattle.lb_answer.specs.Answer.{Answered, answer}
 
--- the kind of a column's type
-abbrev pub kind_of_type : Ty → Kind
-kind_of_type types.Int = integer
-kind_of_type (types.Text width) = text
-kind_of_type types.Date = date
-kind_of_type (types.Label policy) = label policy
-
 -- a column as names and types see it
 abbrev pub field_of : ColumnRec → Field
-field_of c = record { name = c.name; kind = kind_of_type c.ty }
+field_of c = record { name = c.name; kind = kind_of c.ty }
 
 -- the columns of a table
 abbrev pub fields_of : Table → List Field
@@ -70,7 +61,7 @@ abbrev pub statement_refused : List Table → List Policy → Stmt → Option Re
 statement_refused tables policies s = option_map refusal_for (option_or (names_refused (named_by tables policies) s) (types_refused (named_by tables policies) s))
 
 -- the rules for stored conditions
-abbrev pub stored_rules : Checks
+abbrev pub stored_rules : StoredRules
 stored_rules = record {
   condition_names = λ C on c. option_map refusal_for (permission_names_refused (named_in C) on c);
   mask_names = λ C on e. option_map refusal_for (mask_names_refused (named_in C) on e);

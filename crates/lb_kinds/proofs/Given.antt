@@ -6,7 +6,7 @@ use Rattle.lb_tree.specs.declared.query.Expr.{Expr}
 use Rattle.lb_tree.specs.declared.query.Tab.{Tab}
 use Rattle.lb_stmt.specs.declared.write.Assignment.{Assignment}
 use Rattle.lb_names.specs.declared.refused.Refused.TheVariants.{Types}
-use Rattle.lb_names.specs.Kinds.{Kind, is_label, takes}
+use Rattle.lb_names.specs.Kinds.{Kind, is_label, takes, kind_of}
 use Rattle.lb_names.specs.Scopes.{Field, Catalogue, columns_of, field_named}
 use Rattle.lb_names.specs.Typed.{Typed, ◌>>=◌, only_if}
 use Rattle.lb_names.specs.Places.{Place}
@@ -18,7 +18,7 @@ use Rattle.lb_kinds.specs.HasKind.{GivesKind}
 use Rattle.lb_kinds.specs.Days.{days_in, AreDays}
 use Rattle.lb_kinds.specs.Agreement.{AgreesOn}
 use Rattle.lb_kinds.specs.Standing.{HoldsFor}
-use Rattle.lb_kinds.specs.Settings.{kind_of, masked}
+use Rattle.lb_kinds.specs.Settings.{masked}
 use Rattle.lb_kinds.specs.Given.{ValuesFit, IsGiven, AssignmentsFit, CheckedMasksFit}
 use Rattle.lb_kinds.proofs.Results.{no_err, no_none, no_false}
 use Rattle.lb_kinds.proofs.Values.{gives_within}

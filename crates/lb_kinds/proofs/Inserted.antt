@@ -11,7 +11,7 @@ use Rattle.lb_tree.specs.declared.query.Cond.TheFolds.{ind-Item}
 use Rattle.lb_tree.specs.Folds.{Written, item_layer, expr_of, query_of}
 use Rattle.lb_tree.proofs.Opens.{item_roll, query_out}
 use Rattle.lb_names.specs.declared.place.Seen.{Seen}
-use Rattle.lb_names.specs.Kinds.{Kind, is_label, takes}
+use Rattle.lb_names.specs.Kinds.{Kind, is_label, takes, kind_of}
 use Rattle.lb_names.specs.Scopes.{Catalogue}
 use Rattle.lb_names.specs.Typed.{Typed, next, only_if}
 use Rattle.lb_names.specs.Places.{Place, all_free, shown_place}
@@ -19,7 +19,6 @@ use Rattle.lb_names.specs.Carriers as typed
 use Rattle.lb_names.specs.SelectLists.{column_kinds, each_takes, taken, fit, star_fits, star_outputs, called, widths, outputs_of, rest_of, item_step}
 use Rattle.lb_names.specs.Typing.{steps as typed_steps, wanted_of, is_width, query_kinds, groups_of, answers as typed_query}
 use Rattle.lb_kinds.specs.HasKind.{Policies, HasKind, HasKinds}
-use Rattle.lb_kinds.specs.Settings.{kind_of}
 use Rattle.lb_kinds.specs.Inserted.{InsertedRowsFit}
 use Rattle.lb_kinds.proofs.Results.{same_ok, no_false, left_true, right_true}
 use Rattle.lb_kinds.proofs.Typings.{Bound, bound, is_if}

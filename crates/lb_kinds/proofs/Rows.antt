@@ -9,13 +9,13 @@ use Rattle.lb_base.specs.Evaluated.{Evaluated, ◌>>=◌, each, passing}
 use Rattle.lb_base.specs.Truths.{is_true}
 use Rattle.lb_tree.specs.declared.query.Column.{Column}
 use Rattle.lb_tree.specs.declared.query.Tab.{Tab}
-use Rattle.lb_names.specs.Sights.{Name, or_name}
+use Rattle.lb_names.specs.Sights.{Name, or_name, correlation}
 use Rattle.lb_names.specs.Marks.{JoinMarks, ChainMarks, tables_of_chain, tables_of}
 use Rattle.lb_names.specs.Scopes.{Field, Catalogue, columns_of}
 use Rattle.lb_mean.specs.Setting.{Setting, SeenColumn, Piece, JoinedRow, Env, row_frame, given}
 use Rattle.lb_mean.specs.Environment.{column_value}
 use Rattle.lb_mean.specs.Meant as meant
-use Rattle.lb_mean.specs.Joined.{correlation_of, piece, rows_seen, pieces, null_piece, beside, if_true, matches, or_nulls, inner, left, cross, follow, continued, joined_with, chain, in_front, joined}
+use Rattle.lb_mean.specs.Joined.{piece, rows_seen, pieces, null_piece, beside, if_true, matches, or_nulls, inner, left, cross, follow, continued, joined_with, chain, in_front, joined}
 use Rattle.lb_mean.specs.Queries.{one_more, kept, Keyed, Group, gather, gathered, keyed, first_row}
 use Rattle.lb_kinds.specs.HasKind.{Policies, IfResult}
 use Rattle.lb_kinds.specs.Agreement.{SameName, RowFits, CellsFit, AgreesOn}
@@ -74,7 +74,7 @@ module _ (C : Catalogue) (S : Setting) (agrees : AgreesOn C S) where
   same_call None n = refl
   same_call (Some m) n = refl
 
-  piece_fits : (tab : Tab) (vs : List Value) → RowFits S.policies (columns_of C tab) vs → PieceFits C S tab (piece (S.sources tab.table) (correlation_of tab) vs)
+  piece_fits : (tab : Tab) (vs : List Value) → RowFits S.policies (columns_of C tab) vs → PieceFits C S tab (piece (S.sources tab.table) (correlation tab) vs)
   piece_fits tab vs h = record {
     correlation = same_call tab.correlation tab.table;
     columns = refl;
@@ -87,7 +87,7 @@ module _ (C : Catalogue) (S : Setting) (agrees : AgreesOn C S) where
   rows_fit tab (Err fault) e = tt
 
   pieces_fit : (tab : Tab) → AllByRecursion (PieceFits C S tab) (pieces (S.sources tab.table) tab)
-  pieces_fit tab = all_mapped (RowFits S.policies (columns_of C tab)) (PieceFits C S tab) (piece (S.sources tab.table) (correlation_of tab)) (rows_seen (S.sources tab.table).rows) (piece_fits tab) (rows_fit tab (S.sources tab.table).rows refl)
+  pieces_fit tab = all_mapped (RowFits S.policies (columns_of C tab)) (PieceFits C S tab) (piece (S.sources tab.table) (correlation tab)) (rows_seen (S.sources tab.table).rows) (piece_fits tab) (rows_fit tab (S.sources tab.table).rows refl)
 
   -- ---- joins
 

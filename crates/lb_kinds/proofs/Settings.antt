@@ -13,7 +13,7 @@ use Rattle.lb_cat.specs.declared.cred.Cred.{Cred}
 use Rattle.lb_cat.specs.Catalog.{Cat, Table, table_named, policy_named}
 use Rattle.lb_rows.specs.Tables.{Tables, rows_of}
 use Rattle.lb_names.specs.Sights.{Name}
-use Rattle.lb_names.specs.Kinds.{Kind, Common, null, integer, text, date, label, one, differ, both, is_one}
+use Rattle.lb_names.specs.Kinds.{Kind, Common, null, integer, text, date, label, one, differ, both, is_one, kind_of}
 use Rattle.lb_names.specs.Scopes.{Field, Catalogue, listed}
 use Rattle.lb_names.specs.Statements.{stored_place}
 use Rattle.lb_mean.specs.Setting.{Setting, given}
@@ -22,7 +22,7 @@ use Rattle.lb_mean.specs.Visible.{plain_column, whole_source, unguarded, mask_at
 use Rattle.lb_kinds.specs.HasKind.{Policies, HasKind, GivesKind}
 use Rattle.lb_kinds.specs.Agreement.{SameName, RowFits, CellsFit, SourceFits}
 use Rattle.lb_kinds.specs.Standing.{PieceFits}
-use Rattle.lb_kinds.specs.Settings.{kind_of, TakenValuesFit, columns_in, SameColumn, Knows, masked, MaskFits, MasksFit, UnguardedAgrees, GuardedAgrees}
+use Rattle.lb_kinds.specs.Settings.{TakenValuesFit, columns_in, SameColumn, Knows, masked, MaskFits, MasksFit, UnguardedAgrees, GuardedAgrees}
 use Rattle.lb_kinds.proofs.Results.{same_ok, no_false}
 use Rattle.lb_kinds.proofs.Values.{Within, both_within, same_one, no_differ, gives_within}
 use Rattle.lb_kinds.proofs.Expressions.{expressions_give}

@@ -14,7 +14,8 @@ use Rattle.lb_kinds.specs.HasKind.{GivesKind}
 use Rattle.lb_kinds.specs.Days.{days_in, AreDays}
 use Rattle.lb_kinds.specs.Agreement.{AgreesOn}
 use Rattle.lb_kinds.specs.Standing.{HoldsFor}
-use Rattle.lb_kinds.specs.Settings.{kind_of, masked, MaskFits}
+use Rattle.lb_kinds.specs.Settings.{masked, MaskFits}
+use Rattle.lb_names.specs.Kinds.{kind_of}
 
 -- each value of a row of VALUES without a broken node, of one value at least, is null or of the kind of its column's type
 abbrev pub ValuesFit : Type 0

@@ -4,13 +4,12 @@ use Rattle.std.specs.List.{AllZip}
 use Rattle.lb_base.specs.declared.key.Ty.{Ty}
 use Rattle.lb_base.specs.declared.value.Value.{Value}
 use Rattle.lb_tree.specs.declared.query.Query.{Query}
-use Rattle.lb_names.specs.Kinds.{Kind}
+use Rattle.lb_names.specs.Kinds.{Kind, kind_of}
 use Rattle.lb_names.specs.Scopes.{Catalogue}
 use Rattle.lb_names.specs.Places.{Place}
 use Rattle.lb_names.specs.Carriers.{Role}
 use Rattle.lb_names.specs.Typing.{answers as typed_query}
 use Rattle.lb_kinds.specs.HasKind.{Policies, HasKind, HasKinds}
-use Rattle.lb_kinds.specs.Settings.{kind_of}
 
 -- a row of the kinds of a query without a broken node, whose outputs columns of these types are to take, fits the columns
 abbrev pub InsertedRowsFit : Type 0

@@ -11,7 +11,7 @@ use Rattle.lb_cat.specs.declared.catalog.MaskRec.{MaskRec}
 use Rattle.lb_cat.specs.declared.cred.Cred.{Cred}
 use Rattle.lb_cat.specs.Catalog.{Cat, Table, table_named, policy_named}
 use Rattle.lb_rows.specs.Tables.{Tables, rows_of}
-use Rattle.lb_names.specs.Kinds.{Kind, integer, text, date, label, takes}
+use Rattle.lb_names.specs.Kinds.{Kind, integer, text, date, label, takes, kind_of}
 use Rattle.lb_names.specs.Scopes.{Field, Catalogue, listed}
 use Rattle.lb_names.specs.Statements.{stored_place}
 use Rattle.lb_names.specs.Typing.{means as typed}
@@ -21,13 +21,6 @@ use Rattle.lb_kinds.specs.Days.{days_in, AreDays}
 use Rattle.lb_kinds.specs.Agreement.{RowFits, LabelsFit, AgreesOn}
 
 -- ---- values that a column takes
-
--- the kind of the values of a type
-abbrev pub kind_of : Ty → Kind
-kind_of types.Int = integer
-kind_of (types.Text width) = text
-kind_of types.Date = date
-kind_of (types.Label policy) = label policy
 
 -- a value of a kind that a column takes is null or of the column's kind
 abbrev pub TakenValuesFit : Type 0

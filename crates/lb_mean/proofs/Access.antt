@@ -25,7 +25,7 @@ use Rattle.lb_mean.specs.Ordered.{sorts_by}
 use Rattle.lb_mean.specs.Refused.{first_some, lacks, privilege_lacked, columns_in, columns_of, column_refused, policy_of_table, is_used, use_refused_in, use_refused, output_names, is_expression, order_uses, tables_used, columns_refused, Shown, all_shown, shown_by_name, shown_by, may_choose_by, is_allowed, MaskedUse, mask_of, masked_use, refuses, mask_refused, first_refused, masks_refused_in, masks_refused}
 use Rattle.lb_mean.specs.Uses.{uses_in, uses_in_query}
 use Rattle.lb_mean.specs.Visible.{mask_at}
-use Rattle.lb_mean.specs.Laws.{mention_of, mentioned_by_columns, mentioned_by_permissions, mentioned_by_masks, SameRecord, SameStored, SameMention}
+use Rattle.lb_mean.specs.Laws.{mention_of, mentioned_by_columns, mentioned_by_permissions, mentioned_by_masks, SameNamed, SameStored, SameMention}
 use Rattle.lb_mean.proofs.Agreeing.{first, second, weaker}
 use Rattle.lb_mean.proofs.Lists.{all_two, all_flat, all_of_map, all_filtered, all_turned, all_true, mapped_same, kept_same, any_same, all_kept}
 use Rattle.lb_mean.proofs.Used.{SameColumns, expr_uses_same, query_uses_same, AtItem, AtUse, InUses, InQuery, expr_uses_held, query_uses_held}
@@ -35,7 +35,7 @@ module _ (C D : Cat) (T U : Tables) where
   Kept = SameMention C D T U
 
   abbrev pub Stored : Mention → Type 0
-  Stored = SameRecord C D T U
+  Stored = SameNamed C D T U
 
   -- ---- records
 

@@ -25,7 +25,7 @@ use Rattle.lb_mean.specs.Ordered.{sorter, sorts_by, chosen, chosen_by}
 use Rattle.lb_mean.specs.Output.{rows_told, rows_of_query}
 use Rattle.lb_mean.specs.Answer.{unless_refused, query_refused}
 use Rattle.lb_mean.specs.Frame.{Agrees, SameIn}
-use Rattle.lb_mean.specs.Laws.{mention_of, mentioned_by_columns, mentioned_by_permissions, mentioned_by_masks, SameRecord, SameStored, SameMention, SameGuards, SeesSame, RowsFrame, AnswerFrame, TwoWorlds}
+use Rattle.lb_mean.specs.Laws.{mention_of, mentioned_by_columns, mentioned_by_permissions, mentioned_by_masks, SameNamed, SameStored, SameMention, SameGuards, SeesSame, RowsFrame, AnswerFrame, TwoWorlds}
 use Rattle.lb_mean.proofs.Agreeing.{first, second, both, weaker}
 use Rattle.lb_mean.proofs.Meant.{expr_of_session, cond_of_session, query_of_session}
 
@@ -37,16 +37,16 @@ module _ (C D : Cat) (c : Cred) (T U : Tables) (day : ℤ) where
   V = unguarded D c U day
 
   abbrev pub Same : Mentions → Type 0
-  Same = Agrees (SameRecord C D T U)
+  Same = Agrees (SameNamed C D T U)
 
   -- read whole
-  whole_same : (m : Mention) → SameRecord C D T U m → SameIn W V m
+  whole_same : (m : Mention) → SameNamed C D T U m → SameIn W V m
   whole_same (table n) h = λ i. whole_source (h.0 i) (h.1 i)
   whole_same (policy p) h = h
   whole_same (label p l) h = h
 
   abbrev read_whole : (ms : Mentions) → Same ms → Agrees (SameIn W V) ms
-  read_whole = weaker (SameRecord C D T U) (SameIn W V) whole_same
+  read_whole = weaker (SameNamed C D T U) (SameIn W V) whole_same
 
   pub stored_expr : (e : Expr) → Same (in_expr e) → means W e ≡ means V e
   stored_expr e h = expr_of_session c day W.policies V.policies W.sources V.sources e (read_whole (in_expr e) h)
@@ -63,8 +63,8 @@ module _ (C D : Cat) (c : Cred) (T U : Tables) (day : ℤ) where
   pub columns_same : (cs : List ColumnRec) → Same (mentioned_by_columns cs) → map (seen_column W) cs ≡ map (seen_column V) cs
   columns_same [] h = refl
   columns_same (k ∷ cs) h =
-      λ i. record { name = k.name; policy = policy_same (policy_of_type k.ty) (first (SameRecord C D T U) (mention_of (policy_of_type k.ty)) (mentioned_by_columns cs) h) i }
-      ∷ columns_same cs (second (SameRecord C D T U) (mention_of (policy_of_type k.ty)) (mentioned_by_columns cs) h) i
+      λ i. record { name = k.name; policy = policy_same (policy_of_type k.ty) (first (SameNamed C D T U) (mention_of (policy_of_type k.ty)) (mentioned_by_columns cs) h) i }
+      ∷ columns_same cs (second (SameNamed C D T U) (mention_of (policy_of_type k.ty)) (mentioned_by_columns cs) h) i
 
   abbrev enabled_of : List PermissionRec → List PermissionRec
   enabled_of ps = filter (λ p. p.enabled) ps
@@ -82,7 +82,7 @@ module _ (C D : Cat) (c : Cred) (T U : Tables) (day : ℤ) where
 
     permitted_same : (ps : List PermissionRec) → Same (mentioned_by_permissions ps) → AnyOf (enabled_of ps)
     permitted_same [] h = refl
-    permitted_same (p ∷ ps) h = one_more p.enabled p (enabled_of ps) (first (SameRecord C D T U) (in_cond p.condition) (mentioned_by_permissions ps) h) (permitted_same ps (second (SameRecord C D T U) (in_cond p.condition) (mentioned_by_permissions ps) h))
+    permitted_same (p ∷ ps) h = one_more p.enabled p (enabled_of ps) (first (SameNamed C D T U) (in_cond p.condition) (mentioned_by_permissions ps) h) (permitted_same ps (second (SameNamed C D T U) (in_cond p.condition) (mentioned_by_permissions ps) h))
 
     pub allowed_same : Same (mentioned_by_permissions t.permissions) → is_permitted W t row ≡ is_permitted V t row
     allowed_same = permitted_same t.permissions
@@ -104,7 +104,7 @@ module _ (C D : Cat) (c : Cred) (T U : Tables) (day : ℤ) where
 
     found_same : (x : Value) (test : MaskRec → Bool) (ms : List MaskRec) → Same (mentioned_by_masks ms) → ShownSame x (find test ms)
     found_same x test [] h = refl
-    found_same x test (m ∷ ms) h = either_same x (test m) (Some m) (find test ms) (mask_same x m (first (SameRecord C D T U) (in_expr m.value) (mentioned_by_masks ms) h)) (found_same x test ms (second (SameRecord C D T U) (in_expr m.value) (mentioned_by_masks ms) h))
+    found_same x test (m ∷ ms) h = either_same x (test m) (Some m) (find test ms) (mask_same x m (first (SameNamed C D T U) (in_expr m.value) (mentioned_by_masks ms) h)) (found_same x test ms (second (SameNamed C D T U) (in_expr m.value) (mentioned_by_masks ms) h))
 
     pub at_same : Same (mentioned_by_masks t.masks) → (at : ℕ) (x : Value) → ShownSame x (mask_at t at)
     at_same h at x = either_same x t.column_control (find (λ m. m.enabled && m.column == at) t.masks) None (found_same x (λ m. m.enabled && m.column == at) t.masks h) refl
@@ -133,27 +133,27 @@ module _ (C D : Cat) (c : Cred) (T U : Tables) (day : ℤ) where
   rows_same (Some t) rows h = passing_same (is_visible W t) (is_visible V t) (λ row. visible_same t row columns permissions) rows
     where
       after : Same (mentioned_by_columns t.columns ++ (mentioned_by_permissions t.permissions ++ mentioned_by_masks t.masks))
-      after = second (SameRecord C D T U) (mention_of t.policy) (mentioned_by_columns t.columns ++ (mentioned_by_permissions t.permissions ++ mentioned_by_masks t.masks)) h
+      after = second (SameNamed C D T U) (mention_of t.policy) (mentioned_by_columns t.columns ++ (mentioned_by_permissions t.permissions ++ mentioned_by_masks t.masks)) h
 
       columns : Same (mentioned_by_columns t.columns)
-      columns = first (SameRecord C D T U) (mentioned_by_columns t.columns) (mentioned_by_permissions t.permissions ++ mentioned_by_masks t.masks) after
+      columns = first (SameNamed C D T U) (mentioned_by_columns t.columns) (mentioned_by_permissions t.permissions ++ mentioned_by_masks t.masks) after
 
       stored : Same (mentioned_by_permissions t.permissions ++ mentioned_by_masks t.masks)
-      stored = second (SameRecord C D T U) (mentioned_by_columns t.columns) (mentioned_by_permissions t.permissions ++ mentioned_by_masks t.masks) after
+      stored = second (SameNamed C D T U) (mentioned_by_columns t.columns) (mentioned_by_permissions t.permissions ++ mentioned_by_masks t.masks) after
 
       permissions : Same (mentioned_by_permissions t.permissions)
-      permissions = first (SameRecord C D T U) (mentioned_by_permissions t.permissions) (mentioned_by_masks t.masks) stored
+      permissions = first (SameNamed C D T U) (mentioned_by_permissions t.permissions) (mentioned_by_masks t.masks) stored
 
   guarded_same : (o : Option Table) → SameStored C D T U o → Guarded o
   guarded_same None h = tt
   guarded_same (Some s) h = (
-    first (SameRecord C D T U) (mentioned_by_columns s.columns) (mentioned_by_permissions s.permissions ++ mentioned_by_masks s.masks) after,
-    second (SameRecord C D T U) (mentioned_by_permissions s.permissions) (mentioned_by_masks s.masks)
-        (second (SameRecord C D T U) (mentioned_by_columns s.columns) (mentioned_by_permissions s.permissions ++ mentioned_by_masks s.masks) after),
+    first (SameNamed C D T U) (mentioned_by_columns s.columns) (mentioned_by_permissions s.permissions ++ mentioned_by_masks s.masks) after,
+    second (SameNamed C D T U) (mentioned_by_permissions s.permissions) (mentioned_by_masks s.masks)
+        (second (SameNamed C D T U) (mentioned_by_columns s.columns) (mentioned_by_permissions s.permissions ++ mentioned_by_masks s.masks) after),
   )
     where
       after : Same (mentioned_by_columns s.columns ++ (mentioned_by_permissions s.permissions ++ mentioned_by_masks s.masks))
-      after = second (SameRecord C D T U) (mention_of s.policy) (mentioned_by_columns s.columns ++ (mentioned_by_permissions s.permissions ++ mentioned_by_masks s.masks)) h
+      after = second (SameNamed C D T U) (mention_of s.policy) (mentioned_by_columns s.columns ++ (mentioned_by_permissions s.permissions ++ mentioned_by_masks s.masks)) h
 
   -- ---- settings of statements
 
@@ -201,11 +201,11 @@ answer_frame checks C c T U day s h = λ i. unless_refused (query_refused checks
 -- ---- one catalogue
 
 module _ (C : Cat) (c : Cred) (T U : Tables) (day : ℤ) where
-  no_policies : (cs : List ColumnRec) → Agrees (SameRecord C C T U) (mentioned_by_columns cs)
+  no_policies : (cs : List ColumnRec) → Agrees (SameNamed C C T U) (mentioned_by_columns cs)
   no_policies [] = tt
-  no_policies (k ∷ cs) = both (SameRecord C C T U) (mention_of (policy_of_type k.ty)) (mentioned_by_columns cs) (one (policy_of_type k.ty)) (no_policies cs)
+  no_policies (k ∷ cs) = both (SameNamed C C T U) (mention_of (policy_of_type k.ty)) (mentioned_by_columns cs) (one (policy_of_type k.ty)) (no_policies cs)
     where
-      one : (p : Option (List ℕ)) → Agrees (SameRecord C C T U) (mention_of p)
+      one : (p : Option (List ℕ)) → Agrees (SameNamed C C T U) (mention_of p)
       one None = tt
       one (Some p) = (refl, tt)
 

@@ -11,12 +11,9 @@ use Rattle.lb_base.specs.Truths.{is_true}
 use Rattle.lb_tree.specs.declared.query.Tab.{Tab}
 use Rattle.lb_tree.specs.declared.query.Cond.TheOpen as layers
 use Rattle.lb_tree.specs.Folds.{Layer}
+use Rattle.lb_names.specs.Sights.{correlation}
 use Rattle.lb_mean.specs.Setting.{Setting, Source, Env, JoinedRow, Piece, row_frame, given}
 use Rattle.lb_mean.specs.Meant.{Says, Joins, Chains, meaning}
-
--- the name of a table of FROM in its query
-abbrev pub correlation_of : Tab → List ℕ
-correlation_of tab = unwrap_or tab.correlation tab.table
 
 -- a row of a table under the name that the table has in the query
 abbrev pub piece : Source → List ℕ → List Value → Piece
@@ -29,11 +26,11 @@ rows_seen (Err fault) = []
 
 -- the rows of one table of FROM
 abbrev pub pieces : Source → Tab → List Piece
-pieces source tab = map (piece source (correlation_of tab)) (rows_seen source.rows)
+pieces source tab = map (piece source (correlation tab)) (rows_seen source.rows)
 
 -- the row of nulls that LEFT JOIN adds
 abbrev pub null_piece : Source → Tab → Piece
-null_piece source tab = piece source (correlation_of tab) (map (λ c. values.Null) source.columns)
+null_piece source tab = piece source (correlation tab) (map (λ c. values.Null) source.columns)
 
 -- ---- joins
 

@@ -8,12 +8,12 @@ use Rattle.lb_label.specs.declared.kind.Access.TheVariants.{Read, Write}
 use Rattle.lb_label.specs.Component.{Definition}
 use Rattle.lb_label.specs.Exemption.{is_exempt}
 use Rattle.lb_label.specs.Label.{label_of, parts_of}
-use Rattle.lb_label.specs.LabelText.{label_text, read_label as label_read}
+use Rattle.lb_label.specs.LabelText.{label_text, read_label}
 use Rattle.lb_label.specs.Rules.{failing_rule, failure}
 use Rattle.lb_cat.specs.declared.catalog.LabelRec.{LabelRec}
 use Rattle.lb_cat.specs.declared.cred.Cred.{Cred}
 use Rattle.lb_cat.specs.Catalog.{Policy, label_named}
-use Rattle.lb_cat.specs.Credentials.{held_of, read_label, write_label}
+use Rattle.lb_cat.specs.Credentials.{held_of, label_for_reading, label_for_writing}
 
 -- ---- what a session can read and write
 
@@ -23,7 +23,7 @@ exempt_of c p = is_exempt (held_of c p.name).exempt
 
 -- the elements of the label by which the session reads; a user without a label counts as holding the empty one
 abbrev pub elements_read : Cred → Policy → List (List ℕ)
-elements_read c p = label_of p.shape (read_label c p)
+elements_read c p = label_of p.shape (label_for_reading c p)
 
 -- the first component in policy order, and the rule, by which the session can't read data with the label
 abbrev pub read_failure : Cred → Policy → List ℕ → Option Fail
@@ -31,7 +31,7 @@ read_failure c p parts = failure Read p.shape (elements_read c p) (exempt_of c p
 
 -- the first component in policy order, and the rule, by which the session can't write data with the label
 abbrev pub write_failure : Cred → Policy → List ℕ → Option Fail
-write_failure c p parts = failure Write p.shape (label_of p.shape (write_label c p)) (exempt_of c p) (label_of p.shape parts)
+write_failure c p parts = failure Write p.shape (label_of p.shape (label_for_writing c p)) (exempt_of c p) (label_of p.shape parts)
 
 -- the session can read a label of the policy; a value that is no label has nothing to test
 abbrev pub is_readable : Cred → Option Policy → Value → Bool
@@ -48,7 +48,7 @@ label_or_null shape (Err at) = Null
 -- SECLABEL: the label that the text spells in the policy
 abbrev pub label_of_text : Option Policy → List ℕ → Value
 label_of_text None text = Null
-label_of_text (Some p) text = label_or_null p.shape (label_read p.shape text)
+label_of_text (Some p) text = label_or_null p.shape (read_label p.shape text)
 
 -- the label of a record
 abbrev pub label_in : Option LabelRec → Value

@@ -44,21 +44,21 @@ mentioned_by t = mention_of t.policy ++ (mentioned_by_columns t.columns ++ (ment
 -- ---- the frame law
 
 -- two catalogues with two lists of tables have the same record of a table or policy, and the same rows of the table
-abbrev pub SameRecord : Cat → Cat → Tables → Tables → Mention → Type 0
-SameRecord C D T U (table n) = (table_named C n ≡ table_named D n) × (rows_of n T ≡ rows_of n U)
-SameRecord C D T U (policy p) = policy_named C p ≡ policy_named D p
-SameRecord C D T U (label p l) = policy_named C p ≡ policy_named D p
+abbrev pub SameNamed : Cat → Cat → Tables → Tables → Mention → Type 0
+SameNamed C D T U (table n) = (table_named C n ≡ table_named D n) × (rows_of n T ≡ rows_of n U)
+SameNamed C D T U (policy p) = policy_named C p ≡ policy_named D p
+SameNamed C D T U (label p l) = policy_named C p ≡ policy_named D p
 
 -- the same of all that a table mentions, if it is there
 abbrev pub SameStored : Cat → Cat → Tables → Tables → Option Table → Type 0
 SameStored C D T U None = Unit {0}
-SameStored C D T U (Some t) = Agrees (SameRecord C D T U) (mentioned_by t)
+SameStored C D T U (Some t) = Agrees (SameNamed C D T U) (mentioned_by t)
 
 -- the same of what a statement mentions, and of what its tables mention
 abbrev pub SameMention : Cat → Cat → Tables → Tables → Mention → Type 0
-SameMention C D T U (table n) = SameRecord C D T U (table n) × SameStored C D T U (table_named C n)
-SameMention C D T U (policy p) = SameRecord C D T U (policy p)
-SameMention C D T U (label p l) = SameRecord C D T U (label p l)
+SameMention C D T U (table n) = SameNamed C D T U (table n) × SameStored C D T U (table_named C n)
+SameMention C D T U (policy p) = SameNamed C D T U (policy p)
+SameMention C D T U (label p l) = SameNamed C D T U (label p l)
 
 -- What a query gives, where it isn't refused before, depends on the records and rows of the tables and policies that it mentions,
 -- and that these tables mention, and on no other part of catalogue and tables.
@@ -90,7 +90,7 @@ seen_rows C c T day n = ((guarded C c T day).sources n).rows
 -- the tables that a table's permissions and masks mention have the same rows in both worlds
 abbrev pub SameGuards : Cat → Tables → Tables → Option Table → Type 0
 SameGuards C T U None = Unit {0}
-SameGuards C T U (Some t) = Agrees (SameRecord C C T U) (mentioned_by_permissions t.permissions) × Agrees (SameRecord C C T U) (mentioned_by_masks t.masks)
+SameGuards C T U (Some t) = Agrees (SameNamed C C T U) (mentioned_by_permissions t.permissions) × Agrees (SameNamed C C T U) (mentioned_by_masks t.masks)
 
 -- the session sees the same rows of a table, or the same fault, and what its permissions and masks read is the same
 abbrev pub SeesSame : Cat → Cred → ℤ → Tables → Tables → Mention → Type 0

@@ -6,7 +6,7 @@ use Rattle.lb_tree.specs.declared.query.Column.{Column}
 use Rattle.lb_tree.specs.declared.query.Tab.{Tab}
 use Rattle.lb_cat.specs.declared.catalog.ColumnRec.{ColumnRec}
 use Rattle.lb_cat.specs.Catalog.{is_column}
-use Rattle.lb_mean.specs.Joined.{correlation_of}
+use Rattle.lb_names.specs.Sights.{correlation}
 
 -- a table of FROM, with the columns of its record
 pub record FromItem : Type 0 where
@@ -90,7 +90,7 @@ plainly c = record { column = c; aggregated = false }
 
 -- the name of a table in its query
 abbrev pub name_of_item : FromItem → List ℕ
-name_of_item item = correlation_of item.tab
+name_of_item item = correlation item.tab
 
 -- a column belongs to the table: by the correlation name that is written before it, and a bare one by its name
 abbrev pub belongs_by : Option (List ℕ) → List ℕ → FromItem → Bool

@@ -1,6 +1,8 @@
 -- Kinds of values, and which go together.
 use Rattle.std.specs.Prelude.{Bool, true, false, if◌then◌else◌}
 use Rattle.std.specs.Str.{bytes_eq}
+use Rattle.lb_base.specs.declared.key.Ty.{Ty}
+use Rattle.lb_base.specs.declared.key.Ty.TheVariants as types
 use Rattle.lb_tree.specs.declared.query.Comparison.{Comparison}
 use Rattle.lb_tree.specs.declared.query.Comparison.TheVariants as comparisons
 use Rattle.lb_tree.specs.declared.query.Aggregate.{Aggregate}
@@ -18,6 +20,13 @@ pub data Kind : Type 0 where
   date : Kind
   -- a label of the policy with that name
   label : Name → Kind
+
+-- the kind of the values of a type
+abbrev pub kind_of : Ty → Kind
+kind_of types.Int = integer
+kind_of (types.Text width) = text
+kind_of types.Date = date
+kind_of (types.Label policy) = label policy
 
 -- the kind that some parts have in common
 pub data Common : Type 0 where

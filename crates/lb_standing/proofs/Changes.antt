@@ -21,7 +21,8 @@ use Rattle.lb_alter.specs.ChangeGrant.{create_role, drop_role_of, exempting, gra
 use Rattle.lb_alter.specs.ChangeLabel.{create_label, drop_label, holds, parts_refusal, secures_with, user_name}
 use Rattle.lb_alter.specs.ChangePolicy.{components_refusal, create_component, create_policy, drop_component_of, drop_policy_of, elements_of, first_label, has_component, has_policy, kind_of_definition, policy_name, table_name, with_elements}
 use Rattle.lb_alter.specs.ChangeTable.{user_key}
-use Rattle.lb_alter.specs.Refusing.{in_use, Changed, OrRefused, secadm, settled, when}
+use Rattle.lb_alter.specs.Refusing.{in_use, Changed, secadm, settled, when}
+use Rattle.lb_cat.specs.OrRefused.{OrRefused}
 use Rattle.lb_cat.specs.Catalog.{Cat, Table, component_named, has_role, label_named, policy_named}
 use Rattle.lb_cat.specs.Holdings.{has_holding_of, holding_of, holds_label, with_exemptions, with_holding, without_exemptions}
 use Rattle.lb_cat.specs.declared.catalog.Holding.{Holding}

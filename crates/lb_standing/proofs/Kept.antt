@@ -13,7 +13,8 @@ use Rattle.lb_rows.specs.Lists.{put, without}
 use Rattle.lb_rows.specs.Tables.{Tables, Version, is_version, put_version, rows_in, rows_of}
 use Rattle.lb_cat.specs.Catalog.{Cat, Table, User, table_named, is_table, user_named, put_table}
 use Rattle.lb_alter.specs.ChangeGrant.{grants, revokes, taken_from}
-use Rattle.lb_alter.specs.Refusing.{Changed, OrRefused, ◌>>=◌, ◌>>◌, when, found, owner, done, alters}
+use Rattle.lb_alter.specs.Refusing.{Changed, ◌>>◌, when, found, owner, done, alters}
+use Rattle.lb_cat.specs.OrRefused.{OrRefused, ◌>>=◌}
 use Rattle.lb_alter.proofs.SoundTables.{put_case, found_put, found_without}
 use Rattle.lb_alter.proofs.SoundUsers.{all_put, all_filter}
 use Rattle.lb_alter.proofs.Untouched.{without_other}

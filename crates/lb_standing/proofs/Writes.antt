@@ -18,11 +18,12 @@ use Rattle.lb_answer.specs.Answer.{Answered}
 use Rattle.lb_alter.specs.Laws.{CredentialsFit}
 use Rattle.lb_alter.specs.Named.{HasTable}
 use Rattle.lb_alter.proofs.SoundTables.{put_case}
-use Rattle.lb_kinds.specs.Settings.{kind_of, SameColumn, columns_in}
+use Rattle.lb_kinds.specs.Settings.{SameColumn, columns_in}
+use Rattle.lb_names.specs.Kinds.{kind_of}
 use Rattle.lb_fits.specs.Masks.{RefusesUntypedMasks, SoundMasksFit}
 use Rattle.lb_fits.specs.Statements.{FitsAreKnown, IsReady, WritesFit}
 use Rattle.lb_spoken.specs.Laws.{StatementsHaveDays}
-use Rattle.lb_journal.specs.Rules.{kind_of_type, field_of, fields_of, named_in, stored_rules, statement_refused, answered_to}
+use Rattle.lb_journal.specs.Rules.{field_of, fields_of, named_in, stored_rules, statement_refused, answered_to}
 use Rattle.lb_journal.specs.State.{State, answered, left_by, put_maybe}
 use Rattle.lb_journal.proofs.Steady.{none_told}
 use Rattle.lb_standing.specs.Standing.{IsStanding}
@@ -31,7 +32,7 @@ use Rattle.lb_standing.proofs.Wrote.{Wrote, wrote, types_passed}
 
 -- ---- names and types see the columns of the catalogue
 
-same_kind : (ty : Ty) → kind_of_type ty ≡ kind_of ty
+same_kind : (ty : Ty) → kind_of ty ≡ kind_of ty
 same_kind types.Int = refl
 same_kind (types.Text width) = refl
 same_kind types.Date = refl

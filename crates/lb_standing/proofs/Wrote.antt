@@ -17,7 +17,7 @@ use Rattle.lb_mean.specs.Answer.{Checks}
 use Rattle.lb_mean.specs.Refused.{first_some}
 use Rattle.lb_answer.specs.Answer.{Answered, answer, done, unless_refused, with_target, insert_into, update_in, delete_from}
 use Rattle.lb_answer.specs.Before.{privileges_refused, source_reads_refused, writes_refused, source_masks_refused, reads_refused, is_listed_column, is_set}
-use Rattle.lb_answer.specs.OrRefused.{OrRefused}
+use Rattle.lb_cat.specs.OrRefused.{OrRefused}
 use Rattle.lb_answer.specs.Writes.{Written}
 use Rattle.lb_alter.specs.Named.{HasTable}
 use Rattle.lb_journal.specs.Rules.{named_in, statement_refused}

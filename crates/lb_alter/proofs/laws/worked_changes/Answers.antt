@@ -7,9 +7,9 @@ use Rattle.lb_cat.specs.Catalog.{drop_table, table_named, policy_named}
 use Rattle.lb_cat.specs.Privileges.{without_grant, has_grant_on}
 use Rattle.lb_names.specs.Mentions.{Mentions, tables_in, policies_in}
 use Rattle.lb_alter.specs.ChangeTable.{user_key}
-use Rattle.lb_alter.specs.Deps.{policy_of_table, is_key_name, components_of}
+use Rattle.lb_alter.specs.Deps.{policy_name_of, is_key_name, components_of}
 use Rattle.lb_alter.specs.Refusing.{in_use, settled, done, ◌>>◌}
-use Rattle.lb_alter.specs.Stored.{Checks, Stored, stored_name, names_table}
+use Rattle.lb_alter.specs.Stored.{StoredRules, Stored, stored_name, names_table}
 use Rattle.lb_alter.specs.WorkedAnswers.{bank, ReadsThrough}
 use Rattle.std.specs.Prelude.{ℕ, Option, option_map, find, filter, filter_map, map}
 use Rattle.std.specs.List.{flat_map}
@@ -41,7 +41,7 @@ stored : Mentions → Stored
 stored ms = record { name = codes "TELLERS"; mentions = ms }
 
 -- what DROP TABLE answers, by who uses the table
-drop_by : Checks → Option Stored → Reply
+drop_by : StoredRules → Option Stored → Reply
 drop_by K o = (settled (bank K) [] (in_use teller (option_map stored_name o)
     >> done (record (drop_table teller (bank K)) { users = map (without_grant teller) (bank K).users }) (without (is_version teller) []) (keys.Table teller ∷ keys.Rows teller ∷ map user_key (filter (has_grant_on teller) (bank K).users)))).reply
 
@@ -49,15 +49,15 @@ drop_by K o = (settled (bank K) [] (in_use teller (option_map stored_name o)
 tables_by : Mentions → List (List ℕ)
 tables_by b = codes "CUST" ∷ tables_in b
 
-policies_by : Checks → Mentions → List (List ℕ)
-policies_by K b = filter_map (λ n. policy_of_table (table_named (bank K) n)) (tables_by b) ++ filter is_key_name (policies_in b)
+policies_by : StoredRules → Mentions → List (List ℕ)
+policies_by K b = filter_map (λ n. policy_name_of (table_named (bank K) n)) (tables_by b) ++ filter is_key_name (policies_in b)
 
-depends_by : Checks → Mentions → List Key
+depends_by : StoredRules → Mentions → List Key
 depends_by K b = once
     (once (map (λ n. keys.Table n) (tables_by b) ++ (map (λ n. keys.Policy n) (policies_by K b) ++ map (λ n. keys.Component n) (flat_map (λ n. components_of (policy_named (bank K) n)) (policies_by K b))))
     ++ (map (λ n. keys.Rows n) (tables_by b) ++ keys.User (codes "ANN") ∷ []))
 
-through : (K : Checks) → ReadsThrough K
+through : (K : StoredRules) → ReadsThrough K
 unfolding teller stored drop_by tables_by policies_by depends_by
 through K = record {
   dropped = ap (λ (ms : Mentions). drop_by K (find (names_table teller) (stored ms ∷ []))) asks;

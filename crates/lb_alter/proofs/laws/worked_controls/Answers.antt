@@ -13,7 +13,7 @@ use Rattle.lb_alter.specs.ChangeControl.{source_refusal, new_permission, with_pe
 use Rattle.lb_alter.specs.ChangePolicy.{table_name, first_label}
 use Rattle.lb_alter.specs.ChangeTable.{user_key}
 use Rattle.lb_alter.specs.Refusing.{◌>>◌, settled, alters, alters_policy, done, in_use}
-use Rattle.lb_alter.specs.Stored.{Checks}
+use Rattle.lb_alter.specs.Stored.{StoredRules}
 use Rattle.lb_alter.specs.WorkedAnswers.{asks_teller}
 use Rattle.lb_alter.specs.WorkedControls.{SourcesStandBetween, CalledIsInUse, NamedIsInUse, calling, cust, rules_by, shop, teller, names_label}
 use Rattle.lb_alter.proofs.WorkedMentions.{asks, calls, names}
@@ -49,12 +49,12 @@ pub returns-clause-between : goal.returns-clause-between
 returns-clause-between c = between
 
 -- what DROP POLICY Q answers, by what the permission ONE names
-dropped_by : Checks → Mentions → Reply
+dropped_by : StoredRules → Mentions → Reply
 dropped_by K ms = (settled calling [] (in_use (codes "Q") (option_map table_name (cond (list_any (is_policy_mention (codes "Q")) (ms ++ (in_expr names_label ++ []))) (Some cust) None))
     >> (in_use (codes "Q") (first_label (record { name = codes "X"; parts = record { items = [] } } ∷ []))
     >> done (record (drop_policy (codes "Q") calling) { users = map (without_holding (codes "Q")) calling.users }) [] (keys.Policy (codes "Q") ∷ map user_key (filter (has_holding_of (codes "Q")) calling.users))))).reply
 
-called : (K : Checks) → CalledIsInUse K
+called : (K : StoredRules) → CalledIsInUse K
 unfolding dropped_by
 called K = ap (λ (ms : Mentions). dropped_by K ms) calls
 
@@ -62,11 +62,11 @@ pub returns-clause-called : goal.returns-clause-called
 returns-clause-called c = called
 
 -- what DROP SECURITY LABEL Q.X answers, by what the permission and the mask name
-label_by : Checks → Mentions → Mentions → Reply
+label_by : StoredRules → Mentions → Mentions → Reply
 label_by K ms ns = (settled calling [] (in_use (codes "X") (option_map table_name (cond (list_any (is_label_mention (codes "Q") (codes "X")) (ms ++ (ns ++ []))) (Some cust) None))
     >> alters_policy calling [] (record { name = codes "Q"; components = []; shape = []; restrict = false; labels = [] }))).reply
 
-labelled : (K : Checks) → NamedIsInUse K
+labelled : (K : StoredRules) → NamedIsInUse K
 unfolding label_by
 labelled K = ap (λ (ms : Mentions). label_by K ms (in_expr names_label)) calls ∙ ap (label_by K (policy (codes "Q") ∷ [])) names
 
