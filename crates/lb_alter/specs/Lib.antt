@@ -12,6 +12,7 @@ pub mod Frame
 pub mod Labelled
 pub mod Laws
 pub mod Named
+pub mod Naming
 pub mod Refusing
 pub mod Sound
 pub mod Steady

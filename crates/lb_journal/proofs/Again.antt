@@ -18,7 +18,7 @@ use Rattle.lb_alter.specs.Frame.{SameRecord, SameOn}
 use Rattle.lb_alter.specs.Sound.{IsSound}
 use Rattle.lb_alter.proofs.SoundUsers.{all_follow}
 use Rattle.lb_alter.proofs.Steady.{all_once, all_front, all_after, all_mapped, tables_same}
-use Rattle.lb_journal.specs.Rules.{statement_refused, stored_rules}
+use Rattle.lb_alter.specs.Naming.{statement_refused, stored_rules}
 use Rattle.lb_journal.specs.Laws.{SameAt}
 use Rattle.lb_journal.specs.Lasting.{SameCredentials, WriteStays, WritesAgain}
 use Rattle.lb_journal.proofs.Agreeing.{agree_on, find_passes}

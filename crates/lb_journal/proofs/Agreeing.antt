@@ -13,7 +13,7 @@ use Rattle.lb_alter.specs.Frame.{SameOn}
 use Rattle.lb_alter.specs.Named.{HasFoldedNames}
 use Rattle.lb_alter.proofs.SoundUsers.{all_found}
 use Rattle.lb_alter.proofs.Steady.{all_front, all_after, tables_same, policies_same}
-use Rattle.lb_journal.specs.Rules.{fields_of, fault_in, named_in}
+use Rattle.lb_alter.specs.Naming.{fields_of, fault_in, named_in}
 
 pub find_passes : {A : Type 0} (test : A → Bool) (xs : List A) (r : A) → find test xs ≡ Some r → test r ≡ true
 find_passes test [] r e = absurd cc

@@ -18,7 +18,7 @@ use Rattle.lb_alter.specs.Frame.{SameOn}
 use Rattle.lb_alter.specs.Sound.{IsSound}
 use Rattle.lb_alter.proofs.SoundUsers.{all_follow}
 use Rattle.lb_alter.proofs.Steady.{tables_same}
-use Rattle.lb_journal.specs.Rules.{named_in, refusal_for, statement_refused, stored_rules}
+use Rattle.lb_alter.specs.Naming.{named_in, refusal_for, statement_refused, stored_rules}
 use Rattle.lb_journal.specs.Lasting.{AnswerStays}
 use Rattle.lb_journal.proofs.Agreeing.{agree_on}
 use Rattle.lb_journal.proofs.Mentioned.{all_agree, of_owners, of_calls}

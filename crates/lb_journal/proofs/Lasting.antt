@@ -6,7 +6,7 @@ use Rattle.lb_stmt.specs.declared.write.Stmt.{Stmt}
 use Rattle.lb_cat.specs.Catalog.{Cat}
 use Rattle.lb_alter.specs.Deps.{deps}
 use Rattle.lb_alter.specs.Frame.{SameRecord, SameOn}
-use Rattle.lb_journal.specs.Rules.{stored_rules}
+use Rattle.lb_alter.specs.Naming.{stored_rules}
 use Rattle.lb_alter.proofs.Following.{fits_follow}
 use Rattle.lb_alter.proofs.Steady.{deps_stay}
 use Rattle.lb_alter.specs.Sound.{IsSound}

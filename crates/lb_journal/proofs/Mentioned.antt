@@ -21,7 +21,7 @@ use Rattle.lb_alter.specs.Sound.{IsSound}
 use Rattle.lb_alter.specs.Stored.{Stored, mentioned_in, mentions_of, stored_mask, stored_permission}
 use Rattle.lb_alter.proofs.SoundUsers.{all_found}
 use Rattle.lb_alter.proofs.Steady.{all_after, all_front, policies_same}
-use Rattle.lb_journal.specs.Rules.{stored_rules}
+use Rattle.lb_alter.specs.Naming.{stored_rules}
 use Rattle.lb_journal.proofs.Agreeing.{policies_all}
 
 -- what holds of each name that a list gives

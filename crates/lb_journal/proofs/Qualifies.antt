@@ -21,7 +21,7 @@ use Rattle.lb_names.proofs.QualifiedForms.{permission_is_qualified, mask_is_qual
 use Rattle.lb_alter.specs.ChangeTable.{is_label_type}
 use Rattle.lb_alter.specs.Valid.{called, TypesAt}
 use Rattle.lb_alter.proofs.Untouched.{named_there}
-use Rattle.lb_journal.specs.Rules.{field_of, fields_of, named_in, refusal_for, stored_rules}
+use Rattle.lb_alter.specs.Naming.{field_of, fields_of, named_in, refusal_for, stored_rules}
 use Rattle.lb_journal.proofs.Facts.{QualifiedKeeps, QualifiedMaskKeeps}
 use Rattle.lb_journal.proofs.Steady.{none_told}
 

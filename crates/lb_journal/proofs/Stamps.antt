@@ -16,7 +16,8 @@ use Rattle.lb_alter.specs.Refusing.{Changed}
 use Rattle.lb_alter.specs.Frame.{SameRecord, SameRows}
 use Rattle.lb_alter.proofs.Untouched.{or_left, turned, put_other, untouched_stays, users_stay}
 use Rattle.lb_answer.specs.Answer.{Answered}
-use Rattle.lb_journal.specs.Rules.{stored_rules, answered_to}
+use Rattle.lb_alter.specs.Naming.{stored_rules}
+use Rattle.lb_journal.specs.Rules.{answered_to}
 use Rattle.lb_journal.specs.State.{State, first, put_maybe, rows_touched, answered, step, is_there, stamp_after, left_by}
 use Rattle.lb_journal.specs.Replay.{Steps, Runs}
 use Rattle.lb_journal.specs.Laws.{SameAt, AbsentIsZero, StampsTell, SameStampSameRecord}

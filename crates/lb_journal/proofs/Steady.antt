@@ -18,7 +18,7 @@ use Rattle.lb_names.proofs.There.{permission_there, mask_there}
 use Rattle.lb_alter.specs.Steady.{IsRelabelled, StaysNamed}
 use Rattle.lb_alter.specs.Valid.{KeepsRules, KeepsMaskRules}
 use Rattle.lb_alter.proofs.SoundTables.{put_case}
-use Rattle.lb_journal.specs.Rules.{fields_of, fault_in, named_in, refusal_for, stored_rules}
+use Rattle.lb_alter.specs.Naming.{fields_of, fault_in, named_in, refusal_for, stored_rules}
 use Rattle.lb_journal.proofs.Facts.{HasMentioned, ReadsNoMore, ReadsNoMoreInMask, KeepsMentions, KeepsMaskMentions, MentionsStand, MaskMentionsStand, OutlastsLabels, OutlastsLabelsInMask}
 use Rattle.lb_journal.proofs.Agreeing.{agree_on}
 

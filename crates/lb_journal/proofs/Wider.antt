@@ -17,7 +17,7 @@ use Rattle.lb_names.proofs.GrownRules.{permission_types_stay, mask_types_stay}
 use Rattle.lb_alter.specs.ChangeTable.{is_label_type, is_label_column}
 use Rattle.lb_alter.specs.Steady.{IsSameColumn, IsWider}
 use Rattle.lb_alter.proofs.SoundTables.{put_case}
-use Rattle.lb_journal.specs.Rules.{field_of, fields_of, named_in, refusal_for, stored_rules}
+use Rattle.lb_alter.specs.Naming.{field_of, fields_of, named_in, refusal_for, stored_rules}
 use Rattle.lb_journal.proofs.Facts.{OutlastsColumns, OutlastsColumnsInMask}
 use Rattle.lb_journal.proofs.Steady.{none_told}
 

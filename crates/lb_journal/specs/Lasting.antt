@@ -13,7 +13,8 @@ use Rattle.lb_cat.specs.declared.entry.Entry.{Entry}
 use Rattle.lb_alter.specs.Deps.{deps, write_deps}
 use Rattle.lb_alter.specs.Frame.{SameOn}
 use Rattle.lb_alter.specs.Sound.{IsSound}
-use Rattle.lb_journal.specs.Rules.{stored_rules, answered_to}
+use Rattle.lb_alter.specs.Naming.{stored_rules}
+use Rattle.lb_journal.specs.Rules.{answered_to}
 use Rattle.lb_journal.specs.State.{State}
 use Rattle.lb_journal.specs.Replay.{Runs, Replay}
 use Rattle.lb_journal.specs.Laws.{SameAt}

@@ -12,7 +12,7 @@ ghost use Rattle.lb_journal.specs.Roots.{root};
 ghost use Rattle.lb_journal.specs.Touched.{StampsAreLastTouches, HasOneStamp};
 ghost use Rattle.lb_journal.specs.Engine.{RightGives};
 ghost use Rattle.lb_journal.specs.Lasting.{AnswerStays, RightLasts, WriteDependenciesLast, WritesAgain};
-ghost use Rattle.lb_journal.specs.Rules.{stored_rules};
+ghost use Rattle.lb_alter.specs.Naming.{stored_rules};
 ghost use Rattle.lb_journal.specs.Laws.{AbsentIsZero, HasOneReplay, HasOneReply, SameStampSameRecord, StampsTell};
 
 use crate::engine::Engine;

@@ -26,7 +26,7 @@ use Rattle.lb_alter.proofs.SoundAlters.{acts_case}
 use Rattle.lb_alter.proofs.SoundUsers.{all_found, all_put, all_filter}
 use Rattle.lb_kinds.specs.Days.{days_in, AreDays}
 use Rattle.lb_fits.specs.Masks.{HasDays, MasksHaveDays}
-use Rattle.lb_journal.specs.Rules.{named_in, stored_rules}
+use Rattle.lb_alter.specs.Naming.{named_in, stored_rules}
 use Rattle.lb_standing.proofs.Kept.{Kept, LeavesKept, test_kept, done_kept, found_kept, owner_kept, alters_kept, put_both, without_table}
 use Rattle.lb_standing.proofs.Qualified.{mask_days}
 

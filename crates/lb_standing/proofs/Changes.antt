@@ -30,7 +30,7 @@ use Rattle.lb_rows.specs.Tables.{Tables}
 use Rattle.lb_alter.specs.Stored.{calls_label, calls_policy}
 use Rattle.lb_fits.specs.Masks.{MasksHaveDays}
 use Rattle.lb_spoken.specs.Laws.{DefinesDays}
-use Rattle.lb_journal.specs.Rules.{stored_rules}
+use Rattle.lb_alter.specs.Naming.{stored_rules}
 use Rattle.lb_standing.proofs.Kept.{Kept, LeavesKept, test_kept, done_kept, found_kept, made_kept, owner_kept, alters_kept, grants_kept, revokes_kept}
 use Rattle.lb_standing.proofs.ChangedTables.{named, create_table_kept, drop_table_kept, add_column_kept, add_policy_kept, secure_column_kept, unsecure_column_kept, activate_kept, create_permission_kept, create_mask_kept, switch_permission_kept, switch_mask_kept, drop_permission_kept, drop_mask_kept}
 

@@ -6,7 +6,7 @@ use Rattle.lb_cat.specs.declared.entry.Entry.TheVariants as entries
 use Rattle.lb_alter.specs.Laws.{StaysSound, TablesStayFit}
 use Rattle.lb_alter.specs.Steady.{IsSteady}
 use Rattle.lb_spoken.specs.Laws.{ChangesAreAsRead, ChangesHaveDays}
-use Rattle.lb_journal.specs.Rules.{stored_rules}
+use Rattle.lb_alter.specs.Naming.{stored_rules}
 use Rattle.lb_journal.specs.State.{State, first}
 use Rattle.lb_journal.specs.Journal.{Follows, MadeFrom}
 use Rattle.lb_journal.specs.Replay.{Steps, Runs}

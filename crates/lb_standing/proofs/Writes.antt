@@ -23,7 +23,8 @@ use Rattle.lb_names.specs.Kinds.{kind_of}
 use Rattle.lb_fits.specs.Masks.{RefusesUntypedMasks, SoundMasksFit}
 use Rattle.lb_fits.specs.Statements.{FitsAreKnown, IsReady, WritesFit}
 use Rattle.lb_spoken.specs.Laws.{StatementsHaveDays}
-use Rattle.lb_journal.specs.Rules.{field_of, fields_of, named_in, stored_rules, statement_refused, answered_to}
+use Rattle.lb_alter.specs.Naming.{field_of, fields_of, named_in, stored_rules, statement_refused}
+use Rattle.lb_journal.specs.Rules.{answered_to}
 use Rattle.lb_journal.specs.State.{State, answered, left_by, put_maybe}
 use Rattle.lb_journal.proofs.Steady.{none_told}
 use Rattle.lb_standing.specs.Standing.{IsStanding}

@@ -20,7 +20,7 @@ use Rattle.lb_answer.specs.Before.{privileges_refused, source_reads_refused, wri
 use Rattle.lb_cat.specs.OrRefused.{OrRefused}
 use Rattle.lb_answer.specs.Writes.{Written}
 use Rattle.lb_alter.specs.Named.{HasTable}
-use Rattle.lb_journal.specs.Rules.{named_in, statement_refused}
+use Rattle.lb_alter.specs.Naming.{named_in, statement_refused}
 use Rattle.lb_journal.proofs.Steady.{none_told}
 
 -- the table in which rows are left is there, and the test refused nothing

@@ -6,7 +6,7 @@ use Rattle.lb_rows.specs.Tables.{rows_of}
 use Rattle.lb_alter.specs.Laws.{AllTablesFit}
 use Rattle.lb_alter.specs.Sound.{IsSound}
 use Rattle.lb_fits.specs.Masks.{MasksHaveDays}
-use Rattle.lb_journal.specs.Rules.{stored_rules}
+use Rattle.lb_alter.specs.Naming.{stored_rules}
 use Rattle.lb_journal.specs.State.{State}
 
 -- The catalogue is sound under the rules of names and types, all its tables have rows that fit them, the DATE literals of all masks are

@@ -1,4 +1,4 @@
-use Rattle.lb_journal.specs.Rules.{stored_rules}
+use Rattle.lb_alter.specs.Naming.{stored_rules}
 use Rattle.lb_standing.proofs.Steps.{changes_stay}
 use Rattle.lb_standing.proofs.laws.changes_stay_standing.Goals as goal
 

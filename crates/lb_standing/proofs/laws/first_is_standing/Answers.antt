@@ -1,5 +1,5 @@
 use Rattle.std.proofs.Common.{refl}
-use Rattle.lb_journal.specs.Rules.{stored_rules}
+use Rattle.lb_alter.specs.Naming.{stored_rules}
 use Rattle.lb_standing.proofs.laws.first_is_standing.Goals as goal
 
 pub returns : goal.returns
