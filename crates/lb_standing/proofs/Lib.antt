@@ -5,4 +5,5 @@ mod Qualified
 mod Kept
 mod ChangedTables
 mod Changes
-mod Steps
+pub mod Steps
+mod Lasting

@@ -38,7 +38,7 @@ module _ (steps : StepsStayStanding) where
   entry_stands before at S (entries.Open user groups) T made step h = subst IsStanding (sym step) h
   entry_stands before at S (entries.Said d) T made step h = subst IsStanding (sym step.2) (steps step.0 at S d.user d.groups d.day made.day step.1.0 h)
 
-  runs_stand : (before : List Entry) (at : ℕ) (S : State) (es : List Entry) (T : State) → MadeFrom before es → Runs at S es T → IsStanding S → IsStanding T
+  pub runs_stand : (before : List Entry) (at : ℕ) (S : State) (es : List Entry) (T : State) → MadeFrom before es → Runs at S es T → IsStanding S → IsStanding T
   runs_stand before at S [] T made runs h = subst IsStanding (sym runs) h
   runs_stand before at S (e ∷ es) T made runs h = runs_stand (before ++ e ∷ []) (at + 1) runs.0 es T made.1 runs.2 (entry_stands before at S e runs.0 made.0 runs.1 h)
 

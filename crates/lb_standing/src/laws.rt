@@ -1,5 +1,8 @@
 // Laws over what stands. Each is the contract of a function that does nothing but name the laws that it rests on.
+ghost use Rattle.lb_standing.specs.Lasting.{AnswersLast, PlansLast};
 ghost use Rattle.lb_standing.specs.Laws.{ChangesStayStanding, FirstIsStanding, ReplaysAreStanding, StepsStayStanding, WritesStayStanding};
+
+use lb_journal::Engine;
 
 /// What stands before the first entry of a journal: the first catalogue is sound, and it has no tables.
 pub fn first_is_standing()
@@ -47,4 +50,22 @@ pub fn replays_are_standing()
 {
     first_is_standing();
     steps_stay_standing();
+}
+
+/// In a well-made journal, a plan of an engine stays right for its statement while no stamp of what the statement depends on moves.
+pub fn plans_last<E: Engine>()
+    ensures { PlansLast E.means E.takes }
+{
+    first_is_standing();
+    steps_stay_standing();
+    lb_journal::right_plans_last::<E>();
+}
+
+/// In a well-made journal, a write is answered as before, and leaves the same rows, while no stamp of what its commit depends on moves.
+pub fn answers_last()
+    ensures { AnswersLast }
+{
+    first_is_standing();
+    steps_stay_standing();
+    lb_journal::written_again();
 }

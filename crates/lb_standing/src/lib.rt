@@ -4,6 +4,6 @@
 mod laws;
 
 pub use laws::{
-    changes_stay_standing, first_is_standing, replays_are_standing, steps_stay_standing,
-    writes_stay_standing,
+    answers_last, changes_stay_standing, first_is_standing, plans_last, replays_are_standing,
+    steps_stay_standing, writes_stay_standing,
 };
