@@ -51,10 +51,11 @@ decimal_on n (b ∷ bs) = decimal_on (n * 10 + (b - 48)) bs
 abbrev pub word_token : List ℕ → Token
 word_token n = record { kind = kind_of n; content = if has names (kind_of n) then contents.Word n else contents.Nothing }
 
--- the token of an integer, and of a text between quotes
+-- the token of an integer
 abbrev pub number_token : ℕ → Token
 number_token v = record { kind = kinds.Numeral; content = contents.Number v }
 
+-- the token of a text between quotes
 abbrev pub text_token : List ℕ → Token
 text_token t = record { kind = kinds.Text; content = contents.Text t }
 

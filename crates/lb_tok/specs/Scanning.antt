@@ -7,7 +7,7 @@ use Rattle.lb_tok.specs.declared.kind.Kind.{Kind}
 use Rattle.lb_tok.specs.declared.kind.Kind.TheVariants as kinds
 use Rattle.lb_tok.specs.declared.token.Token.{Token}
 use Rattle.lb_tok.specs.declared.token.Content.TheVariants as contents
-use Rattle.lb_tok.specs.Lexing.{is_blank, begins, word_token, symbol_token}
+use Rattle.lb_tok.specs.Lexing.{is_blank, begins, word_token, symbol_token, number_token, text_token}
 
 -- what follows the blanks and comments in front, or, inside a comment, the rest of its line first
 abbrev pub past_gap_in : Bool → List ℕ → List ℕ
