@@ -38,13 +38,13 @@ abbrev pub answered : Cat → Tables → Answered → Changed
 answered C T a = record { cat = C; tables = put_maybe a.table T; touched = rows_touched a.table; reply = a.reply }
 
 -- what a statement of the user with these groups, on that day, answers and leaves
-abbrev pub outcome : Cat → Tables → List ℕ → List (List ℕ) → ℤ → Stmt → Changed
-outcome C T user groups day (stmts.Change c) = changed C T user c
-outcome C T user groups day s = answered C T (answered_to C (cred C user groups) T day s)
+abbrev pub effect : Cat → Tables → List ℕ → List (List ℕ) → ℤ → Stmt → Changed
+effect C T user groups day (stmts.Change c) = changed C T user c
+effect C T user groups day s = answered C T (answered_to C (cred C user groups) T day s)
 
 -- the same in a state
 abbrev pub step : State → List ℕ → List (List ℕ) → ℤ → Stmt → Changed
-step S user groups day s = outcome S.cat S.tables user groups day s
+step S user groups day s = effect S.cat S.tables user groups day s
 
 -- the key has a record; the rows of a table are there as long as the table is
 abbrev pub is_there : Cat → Tables → Key → Bool
