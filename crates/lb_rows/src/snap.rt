@@ -1,6 +1,14 @@
 // The rows of all tables at one time.
+ghost use Rattle.std.specs.Prelude.{◌≡◌, ◌≤◌, ◌<◌, ◌⊎◌, [], find, is_some, length, IfOk, IsSome, slice_get};
+ghost use Rattle.std.specs.Option.{option_map};
+ghost use Rattle.std.specs.Arc.{arc_value};
+ghost use Rattle.lb_rows.specs.Lists.{put, without};
+ghost use Rattle.lb_rows.specs.Stamped.{Stamped, is_stamped, rows_only, stamp_of, stamped_of};
+ghost use Rattle.lb_rows.specs.Tables.{drop_version, is_version, put_version};
+
 use crate::version::TableVersion;
 use arrayvec::ArrayVec;
+use lb_base::{Name, NoMemory};
 use std::marker::Model;
 use std::sync::Arc;
 
@@ -17,7 +25,7 @@ pub struct StampedVersion {
 /// The rows of all tables, at most 64, each with its stamp. Contracts see the list of the versions with their stamps.
 #[derive(Drop)]
 pub struct Snap {
-    versions: ArrayVec<StampedVersion, { TABLE_LIMIT }>,
+    versions: ArrayVec<Option<StampedVersion>, { TABLE_LIMIT }>,
 }
 
 impl Model for Snap {
@@ -27,6 +35,97 @@ impl Model for Snap {
     ghost Value = { List Stamped };
 
     ghost use Rattle.lb_rows.specs.Stamped.{stamped_in};
+    ghost use Rattle.lb_rows.specs.Kept.{versions_in, AllThere};
 
-    ghost view = { λ s. stamped_in s.versions.items };
+    ghost view = { λ s. stamped_in (versions_in s.versions.items) };
+
+    ghost invariant = { λ s. AllThere s.versions.items };
+}
+
+impl Snap {
+    /// No table. It takes no memory.
+    pub fn empty() -> Snap
+        ensures { result ≡ [] }
+    {
+        Snap {
+            versions: ArrayVec::new(),
+        }
+    }
+
+    /// How many tables there are.
+    pub fn len(&self) -> usize
+        ensures len { result ≡ length self.now }
+        ensures few { length self.now ≤ TABLE_LIMIT }
+    {
+        let _room = self.versions.is_full();
+        self.versions.len()
+    }
+
+    /// The version in this place with its stamp. None exactly past the last one.
+    pub fn at(&self, place: usize) -> Option<&StampedVersion>
+        ensures { option_map (λ s. stamped_of s.now) result ≡ slice_get self.now place }
+    {
+        held(self.versions.as_slice(), place)
+    }
+
+    /// The version of a table. None exactly where the table is absent.
+    pub fn version(&self, table: &Name) -> Option<&Arc<TableVersion>>
+        ensures { option_map (λ v. arc_value v.now) result ≡ find (is_version table.now) (rows_only self.now) }
+    {
+        match found(self.versions.as_slice(), table) {
+            Some(stamped) => Some(&stamped.version),
+            None => None,
+        }
+    }
+
+    /// The rows of a table. None exactly where the table is absent.
+    pub fn rows(&self, table: &Name) -> Option<&TableVersion>
+        ensures { option_map (λ v. v.now) result ≡ find (is_version table.now) (rows_only self.now) }
+    {
+        match found(self.versions.as_slice(), table) {
+            Some(stamped) => Some(&*stamped.version),
+            None => None,
+        }
+    }
+
+    /// The stamp of a table's rows, and 0 where the table is absent.
+    pub fn stamp(&self, table: &Name) -> u64
+        ensures { result ≡ stamp_of table.now self.now }
+    {
+        match found(self.versions.as_slice(), table) {
+            Some(stamped) => stamped.stamp,
+            None => 0,
+        }
+    }
+
+    /// Puts a version in the place of its table's, or last where the table is absent. All other tables stay. It takes no memory.
+    pub fn put(&mut self, version: Arc<TableVersion>, stamp: u64)
+        requires room { IsSome (find (is_version (arc_value version).name) (rows_only self.old)) ⊎ (length self.old < TABLE_LIMIT) }
+        ensures stamped { self.new ≡ put (is_stamped (arc_value version).name) (record { version = arc_value version; stamp = stamp }) self.old }
+        ensures rows { rows_only self.new ≡ put_version (arc_value version) (rows_only self.old) }
+    {
+        put_in(&mut self.versions, StampedVersion { version, stamp });
+    }
+
+    /// Takes a table's version out. The others keep their order, and an absent table changes nothing. It takes no memory.
+    pub fn remove(&mut self, table: &Name)
+        ensures stamped { self.new ≡ without (is_stamped table.now) self.old }
+        ensures rows { rows_only self.new ≡ drop_version table.now (rows_only self.old) }
+    {
+        take_out(&mut self.versions, table);
+    }
+
+    /// The same tables once more, whose versions are shared. It fails only where memory runs out.
+    pub fn copy(&self) -> Result<Snap, NoMemory>
+        ensures { IfOk result (λ s. s ≡ self.now) }
+    {
+        let mut copied = Snap::empty();
+        for at in 0..self.len() {
+            match self.at(at) {
+                Some(stamped) => copied.add(stamped.version.clone()?, stamped.stamp),
+                None => unreachable!(),
+            }
+        }
+        Ok(copied)
+    }
 }
