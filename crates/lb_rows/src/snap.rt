@@ -1,9 +1,11 @@
 // The rows of all tables at one time.
-ghost use Rattle.std.specs.Prelude.{◌≡◌, ◌≤◌, ◌<◌, ◌⊎◌, [], find, is_some, length, IfOk, IsSome, slice_get};
-ghost use Rattle.std.specs.Option.{option_map};
+ghost use Rattle.std.specs.Prelude.{◌≡◌, ◌≤◌, ◌<◌, ◌⊎◌, [], find, length, IfOk, IsSome, OnOk, slice_get};
+ghost use Rattle.std.specs.Option.{option_copied, option_map};
+ghost use Rattle.std.specs.List.{position_or_len};
 ghost use Rattle.std.specs.Arc.{arc_value};
+ghost use Rattle.lb_rows.specs.Kept.{AllThere, holds, is_of, versions_in};
 ghost use Rattle.lb_rows.specs.Lists.{put, without};
-ghost use Rattle.lb_rows.specs.Stamped.{Stamped, is_stamped, rows_only, stamp_of, stamped_of};
+ghost use Rattle.lb_rows.specs.Stamped.{Stamped, is_stamped, rows_only, stamp_of, stamped_in, stamped_of};
 ghost use Rattle.lb_rows.specs.Tables.{drop_version, is_version, put_version};
 
 use crate::version::TableVersion;
@@ -104,7 +106,13 @@ impl Snap {
         ensures stamped { self.new ≡ put (is_stamped (arc_value version).name) (record { version = arc_value version; stamp = stamp }) self.old }
         ensures rows { rows_only self.new ≡ put_version (arc_value version) (rows_only self.old) }
     {
-        put_in(&mut self.versions, StampedVersion { version, stamp });
+        let place = place_of(self.versions.as_slice(), version.name());
+        let stamped = Some(StampedVersion { version, stamp });
+        if place < self.versions.len() {
+            self.versions[place] = stamped;
+        } else {
+            self.versions.push(stamped);
+        }
     }
 
     /// Takes a table's version out. The others keep their order, and an absent table changes nothing. It takes no memory.
@@ -119,13 +127,88 @@ impl Snap {
     pub fn copy(&self) -> Result<Snap, NoMemory>
         ensures { IfOk result (λ s. s ≡ self.now) }
     {
-        let mut copied = Snap::empty();
-        for at in 0..self.len() {
-            match self.at(at) {
-                Some(stamped) => copied.add(stamped.version.clone()?, stamped.stamp),
-                None => unreachable!(),
-            }
+        let mut versions = ArrayVec::new();
+        share_all(self.versions.as_slice(), &mut versions)?;
+        Ok(Snap { versions })
+    }
+}
+
+/// What the place has. None exactly past the last one.
+fn held(versions: &[Option<StampedVersion>], place: usize) -> Option<&StampedVersion>
+    requires { AllThere versions.now }
+    ensures { option_copied result ≡ slice_get (versions_in versions.now) place }
+{
+    match versions.get(place) {
+        Some(Some(version)) => Some(version),
+        _ => None,
+    }
+}
+
+/// The first place that has the version of the table; the number of places where there is none.
+fn place_of(versions: &[Option<StampedVersion>], table: &Name) -> usize
+    ensures { result ≡ position_or_len (holds table.now) versions.now }
+{
+    let mut place = 0;
+    for version in versions {
+        if is_of_table(version, table) {
+            return place;
         }
-        Ok(copied)
+        place += 1;
+    }
+    place
+}
+
+fn is_of_table(version: &Option<StampedVersion>, table: &Name) -> bool
+    ensures { result ≡ holds table.now version.now }
+{
+    match version {
+        Some(stamped) => stamped.version.name().is(table),
+        None => false,
+    }
+}
+
+/// The version of the table, where there is one.
+fn found<'a>(versions: &'a [Option<StampedVersion>], table: &Name) -> Option<&'a StampedVersion>
+    requires { AllThere versions.now }
+    ensures { option_copied result ≡ find (is_of table.now) (versions_in versions.now) }
+{
+    held(versions, place_of(versions, table))
+}
+
+/// Takes the versions of a table out.
+fn take_out(versions: &mut ArrayVec<Option<StampedVersion>, { TABLE_LIMIT }>, table: &Name)
+    requires { AllThere versions.old.items }
+    ensures there { AllThere versions.new.items }
+    ensures rest { versions_in versions.new.items ≡ without (is_of table.now) (versions_in versions.old.items) }
+{
+    versions.retain(|version| !is_of_table(version, table));
+}
+
+/// Puts all of these versions behind the others; they are shared.
+fn share_all(versions: &[Option<StampedVersion>], shared: &mut ArrayVec<Option<StampedVersion>, { TABLE_LIMIT }>) -> Result<(), NoMemory>
+    requires there { AllThere versions.now }
+    requires fits { length versions.now ≤ TABLE_LIMIT }
+    requires none { shared.old.items ≡ [] }
+    ensures there { OnOk result (AllThere shared.new.items) }
+    ensures same { OnOk result (stamped_in (versions_in shared.new.items) ≡ stamped_in (versions_in versions.now)) }
+{
+    for version in versions {
+        shared.push(share(version)?);
+    }
+    Ok(())
+}
+
+fn share(version: &Option<StampedVersion>) -> Result<Option<StampedVersion>, NoMemory>
+    ensures { IfOk result (λ v. option_map stamped_of v ≡ option_map stamped_of version.now) }
+{
+    match version {
+        Some(stamped) => {
+            let version = stamped.version.clone()?;
+            Ok(Some(StampedVersion {
+                version,
+                stamp: stamped.stamp,
+            }))
+        }
+        None => Ok(None),
     }
 }

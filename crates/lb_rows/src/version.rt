@@ -1,12 +1,13 @@
 // The rows of one table at one time, and the versions that come of them by an INSERT, an UPDATE or a DELETE.
-ghost use Rattle.std.specs.Prelude.{◌≡◌, ◌≤◌, ◌<◌, ◌+◌, ◌++◌, [], length, IfOk, slice_get};
+ghost use Rattle.std.specs.Prelude.{◌≡◌, ◌≤◌, ◌<◌, ◌+◌, ◌++◌, ◌^◌, [], length, IfOk, slice_get};
 ghost use Rattle.std.specs.Option.{option_copied};
 ghost use Rattle.std.specs.Arc.{arc_value};
-ghost use Rattle.lb_rows.specs.Chunks.{ArePlaced, rows_in_chunks};
-ghost use Rattle.lb_rows.specs.Edits.{AreRising, changed, changed_from, left, left_from, places_of};
+ghost use Rattle.lb_rows.specs.Chunks.{IsRun};
+ghost use Rattle.lb_rows.specs.Edits.{AreInOrder, changed, left, place_of};
 
-use crate::chunk::{CHUNK_LIMIT, Chunk, Chunks};
-use crate::edit::{ChangedRow, change_at, is_at};
+use crate::builder::Builder;
+use crate::chunk::{CHUNK_LIMIT, Chunks, rest_of, run_from};
+use crate::edit::{ChangedRow, change_within, has_place_within};
 use lb_base::{Listing, Name, NoMemory, Row, RowList};
 use std::alloc::Global;
 use std::marker::Model;
@@ -17,15 +18,20 @@ use std::sync::Arc;
 #[derive(Drop)]
 pub struct TableVersion {
     name: Name,
-    chunks: Chunks,
+    front: Arc<Chunks>,
+    last: Arc<RowList>,
 }
 
 impl Model for TableVersion {
+    ghost use Rattle.std.specs.Prelude.{◌≤◌, ◌<◌, ◌+◌, ◌++◌, ◌^◌, length};
+    ghost use Rattle.std.specs.Arc.{arc_value};
     ghost use Rattle.lb_rows.specs.Tables.{Version};
 
     ghost Value = { Version };
 
-    ghost view = { λ t. record { name = t.name; rows = t.chunks } };
+    ghost view = { λ t. record { name = t.name; rows = arc_value t.front ++ arc_value t.last } };
+
+    ghost invariant = { λ t. (length (arc_value t.last) ≤ 256) × (length (arc_value t.front) + length (arc_value t.last) < 2 ^ 32) };
 }
 
 impl TableVersion {
@@ -33,7 +39,7 @@ impl TableVersion {
     pub fn empty(alloc: Global, name: &Name) -> Result<Arc<TableVersion>, NoMemory>
         ensures { IfOk result (λ v. arc_value v ≡ record { name = name.now; rows = [] }) }
     {
-        made(alloc, name, Chunks::empty(alloc))
+        finish(alloc, name, Builder::empty(alloc))
     }
 
     /// The name of the table.
@@ -47,22 +53,27 @@ impl TableVersion {
     pub fn len(&self) -> u32
         ensures { result ≡ length self.now.rows }
     {
-        self.chunks.len()
+        self.front.len() + self.last.len() as u32
     }
 
     /// The row at a place, counted from 0. None exactly past the last row. Its chunk is found by halves.
     pub fn row(&self, place: u32) -> Option<&Row>
         ensures { option_copied result ≡ slice_get self.now.rows place }
     {
-        self.chunks.at(place)
+        self.run(place).first()
     }
 
-    /// The chunks in order: what they hold one after another are the rows, and each knows the place of its first row.
-    pub fn chunks(&self) -> &[Chunk]
-        ensures rows { rows_in_chunks result.now ≡ self.now.rows }
-        ensures places { ArePlaced 0 result.now }
+    /// Rows from a place on, as far as they stand in one chunk: at most 256, and none exactly past the last row. A scan that
+    /// goes on behind each run takes constant time a row.
+    pub fn run(&self, place: u32) -> &[Row]
+        ensures { IsRun self.now.rows place result.now }
     {
-        self.chunks.as_slice()
+        let front = self.front.len();
+        if place < front {
+            run_from(self.front.as_slice(), place)
+        } else {
+            rest_of(self.last.as_slice(), (place - front) as usize)
+        }
     }
 
     /// The table with these rows in place of its own.
@@ -70,44 +81,99 @@ impl TableVersion {
         requires fits { length rows < 2 ^ 32 }
         ensures { IfOk result (λ v. arc_value v ≡ record { name = self.now.name; rows = rows }) }
     {
-        let chunks = followed_by(alloc, Chunks::empty(alloc), Listing::empty(alloc), rows.as_slice())?;
-        made(alloc, &self.name, chunks)
+        let mut builder = Builder::empty(alloc);
+        builder.extend(alloc, rows.as_slice())?;
+        finish(alloc, &self.name, builder)
     }
 
     /// The table with these rows behind its own (INSERT statement). All chunks are shared but the last one, whose rows are
-    /// copied where it has room.
+    /// copied where it has room for more.
     pub fn with_appended(&self, alloc: Global, rows: RowList) -> Result<Arc<TableVersion>, NoMemory>
         requires fits { length self.now.rows + length rows < 2 ^ 32 }
         ensures { IfOk result (λ v. arc_value v ≡ record { name = self.now.name; rows = self.now.rows ++ rows }) }
     {
-        let chunks = appended(alloc, self.chunks.as_slice(), rows.as_slice())?;
-        made(alloc, &self.name, chunks)
+        if self.last.len() + rows.len() <= CHUNK_LIMIT {
+            let mut last = self.last.copy(alloc)?;
+            last.append(rows)?;
+            return made(alloc, &self.name, self.front.clone()?, Arc::new(alloc, last)?);
+        }
+        let mut builder = self.reopened(alloc)?;
+        builder.extend(alloc, rows.as_slice())?;
+        finish(alloc, &self.name, builder)
     }
 
-    /// The table where some rows are replaced by new ones (UPDATE statement). The places of the changes rise. Chunks without
-    /// a change are shared.
+    /// The rows to go on with. All chunks are shared but the last one, unless it is full.
+    fn reopened(&self, alloc: Global) -> Result<Builder, NoMemory>
+        ensures { IfOk result (λ b. b ≡ self.now.rows) }
+    {
+        let mut builder = Builder::empty(alloc);
+        builder.share_all(alloc, self.front.as_slice())?;
+        if self.last.len() == CHUNK_LIMIT {
+            builder.share(alloc, &self.last)?;
+            return Ok(builder);
+        }
+        builder.extend(alloc, self.last.as_slice())?;
+        Ok(builder)
+    }
+
+    /// The table after changes of some rows, which get new ones (UPDATE statement). The changes come in the order of their
+    /// places; where two have one place the first counts, and one past the last row changes nothing. Chunks without a change
+    /// are shared.
     pub fn with_changed(&self, alloc: Global, changes: &[ChangedRow]) -> Result<Arc<TableVersion>, NoMemory>
-        requires rising { AreRising (places_of changes.now) }
+        requires { AreInOrder place_of changes.now }
         ensures { IfOk result (λ v. arc_value v ≡ record { name = self.now.name; rows = changed changes.now self.now.rows }) }
     {
-        let chunks = changed_chunks(alloc, self.chunks.as_slice(), changes)?;
-        made(alloc, &self.name, chunks)
+        let first = self.front.len();
+        let mut builder = Builder::empty(alloc);
+        builder.change_all(alloc, self.front.as_slice(), changes)?;
+        if change_within(changes, first, self.len()).is_none() {
+            return finish_with(alloc, &self.name, builder, &self.last);
+        }
+        builder.extend_changed(alloc, first, self.last.as_slice(), changes)?;
+        finish(alloc, &self.name, builder)
     }
 
-    /// The table without the rows at some places (DELETE statement), which rise. Chunks that lose no row are shared.
+    /// The table without the rows at some places, which come in order (DELETE statement). Chunks that lose no row are shared.
     pub fn without(&self, alloc: Global, places: &[u32]) -> Result<Arc<TableVersion>, NoMemory>
-        requires rising { AreRising places.now }
+        requires { AreInOrder (λ place. place) places.now }
         ensures { IfOk result (λ v. arc_value v ≡ record { name = self.now.name; rows = left places.now self.now.rows }) }
     {
-        let chunks = left_chunks(alloc, self.chunks.as_slice(), places)?;
-        made(alloc, &self.name, chunks)
+        let first = self.front.len();
+        let mut builder = Builder::empty(alloc);
+        builder.leave_out_all(alloc, self.front.as_slice(), places)?;
+        if !has_place_within(places, first, self.len()) {
+            return finish_with(alloc, &self.name, builder, &self.last);
+        }
+        builder.extend_left(alloc, first, self.last.as_slice(), places)?;
+        finish(alloc, &self.name, builder)
     }
 }
 
-fn made(alloc: Global, name: &Name, chunks: Chunks) -> Result<Arc<TableVersion>, NoMemory>
-    ensures { IfOk result (λ v. arc_value v ≡ record { name = name.now; rows = chunks }) }
+/// The version with these rows.
+fn finish(alloc: Global, name: &Name, builder: Builder) -> Result<Arc<TableVersion>, NoMemory>
+    requires { length builder < 2 ^ 32 }
+    ensures { IfOk result (λ v. arc_value v ≡ record { name = name.now; rows = builder }) }
+{
+    let (chunks, last) = builder.parts();
+    made(alloc, name, Arc::new(alloc, chunks)?, Arc::new(alloc, last)?)
+}
+
+/// The version with these rows and a last chunk, which is shared.
+fn finish_with(alloc: Global, name: &Name, builder: Builder, last: &Arc<RowList>) -> Result<Arc<TableVersion>, NoMemory>
+    requires few { length (arc_value last.now) ≤ CHUNK_LIMIT }
+    requires fits { length builder + length (arc_value last.now) < 2 ^ 32 }
+    ensures { IfOk result (λ v. arc_value v ≡ record { name = name.now; rows = builder ++ arc_value last.now }) }
+{
+    let chunks = builder.close(alloc)?;
+    made(alloc, name, Arc::new(alloc, chunks)?, last.clone()?)
+}
+
+fn made(alloc: Global, name: &Name, front: Arc<Chunks>, last: Arc<RowList>) -> Result<Arc<TableVersion>, NoMemory>
+    requires few { length (arc_value last) ≤ CHUNK_LIMIT }
+    requires fits { length (arc_value front) + length (arc_value last) < 2 ^ 32 }
+    ensures { IfOk result (λ v. arc_value v ≡ record { name = name.now; rows = arc_value front ++ arc_value last }) }
 {
     let name = name.copy()?;
-    let version = Arc::new(alloc, TableVersion { name, chunks })?;
+    let version = Arc::new(alloc, TableVersion { name, front, last })?;
     Ok(version)
 }
