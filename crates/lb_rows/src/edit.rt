@@ -1,5 +1,5 @@
 // Edits of rows by their places: which row is changed or left out, found by halves.
-ghost use Rattle.std.specs.Prelude.{◌≡◌, ◌+◌, ◌<◌, ◌^◌, find, IfOk};
+ghost use Rattle.std.specs.Prelude.{◌≡◌, ◌+◌, ◌<◌, ◌^◌, find, slice_get, IfOk};
 ghost use Rattle.std.specs.Option.{option_copied};
 ghost use Rattle.std.specs.List.{list_any};
 ghost use Rattle.lb_rows.specs.Edits.{AreInOrder, changed_row, is_among, is_change_within, is_within, place_of};
@@ -20,9 +20,15 @@ pub(crate) fn change_within(changes: &[ChangedRow], first: u32, end: u32) -> Opt
     ensures { option_copied result ≡ find (is_change_within first end) changes.now }
 {
     let at = changes.partition_point(|change| change.place < first);
-    match changes.get(at) {
-        Some(change) if change.place < end => Some(change),
-        _ => None,
+    match item_at(changes, at) {
+        Some(change) => {
+            if change.place < end {
+                Some(change)
+            } else {
+                None
+            }
+        }
+        None => None,
     }
 }
 
@@ -32,7 +38,7 @@ pub(crate) fn has_place_within(places: &[u32], first: u32, end: u32) -> bool
     ensures { result ≡ list_any (is_within first end) places.now }
 {
     let at = places.partition_point(|place| *place < first);
-    match places.get(at) {
+    match item_at(places, at) {
         Some(place) => *place < end,
         None => false,
     }
@@ -57,4 +63,11 @@ pub(crate) fn is_at(places: &[u32], place: u32) -> bool
     ensures { result ≡ is_among places.now place }
 {
     has_place_within(places, place, place + 1)
+}
+
+/// The item at a place, counted from 0. None exactly past the last one.
+fn item_at<T>(items: &[T], place: usize) -> Option<&T>
+    ensures { option_copied result ≡ slice_get items.now place }
+{
+    items.get(place)
 }
