@@ -1,2 +1,4 @@
+pub mod Edited
 pub mod Halves
 pub mod Placed
+pub mod Untouched

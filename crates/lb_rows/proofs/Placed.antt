@@ -116,3 +116,24 @@ first_of_run [] (r ∷ run) (suc k) is = let b : [] ≡ r ∷ run = is.begins in
 first_of_run (x ∷ rows) [] zero is = let h : 0 < 0 = is.some (omega arith) in absurd (omega arith)
 first_of_run (x ∷ rows) (r ∷ run) zero is = let b : x ∷ take (length run) rows ≡ r ∷ run = is.begins in cc
 first_of_run (x ∷ rows) run (suc k) is = first_of_run rows run k (record { begins = is.begins; few = is.few; some = λ h. is.some (omega arith) })
+
+-- the same, as `partition_point` finds it
+abbrev pub BeginBefore : List Chunk → ℕ → ℕ → Type 0
+BeginBefore chunks place n = IsPartitionPoint (λ c. leb (first_of c) place ≡ true) (λ c. leb (first_of c) place ≡ false) chunks n
+
+pub begins_before : (chunks : List Chunk) (place n : ℕ) (c : Chunk) → BeginBefore chunks place n → (n ≡ 0 → ⊥) → c ≡ get_or chunks (n - 1) c → c.first ≤ place
+begins_before chunks place zero c point some is = absurd (some refl)
+begins_before chunks place (suc i) c point some is =
+    let under : (get_or chunks (suc i - 1) c).first ≤ place = leb-true _ place (point.0 (suc i - 1) c (omega arith) (omega arith)) in
+    subst (λ (b : Chunk). b.first ≤ place) (sym is) under
+
+pub run_in : (chunks : List Chunk) (place n : ℕ) (c : Chunk) (run : List (List Value)) → ArePlaced 0 chunks → BeginBefore chunks place n → (n ≡ 0 → ⊥) → n ≤ length chunks
+    → c ≡ get_or chunks (n - 1) c → run ≡ drop (place - c.first) (rows_in c) → IsRun (rows_in_chunks chunks) place run
+run_in chunks place zero c run placed point some inside is rest = absurd (some refl)
+run_in chunks place (suc i) c run placed point some inside is rest =
+    let index : suc i - 1 ≡ i = omega arith in
+    let found : get_or chunks i c ≡ c = ap (λ (k : ℕ). get_or chunks k c) (sym index) ∙ sym is in
+    let same : place - 0 ≡ place = omega arith in
+    let at = run_at 0 chunks place i c placed (omega arith) point (omega arith) in
+    let here = subst (λ (b : Chunk). IsRun (rows_in_chunks chunks) (place - 0) (drop (place - b.first) (rows_in b))) found at in
+    subst (λ (k : ℕ). IsRun (rows_in_chunks chunks) k run) same (subst (λ (r : List (List Value)). IsRun (rows_in_chunks chunks) (place - 0) r) (sym rest) here)
