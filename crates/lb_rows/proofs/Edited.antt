@@ -141,3 +141,26 @@ inside_all chunks i c stands fits =
     let first : c.first ≡ 0 + length (rows_in_chunks (take i chunks)) = stands.first in
     let inside : length (rows_in_chunks (take i chunks)) + length (rows_in c) ≤ length (rows_in_chunks chunks) = stands.inside in
     omega arith
+
+module _ (f : ℕ → List (List Value) → List (List Value)) (edit : IsEdit f) where
+  -- the front rows are edited, and there is room for the last ones
+  pub room_behind : (old now rows front last : List (List Value)) → old ≡ [] → now ≡ old ++ f 0 rows → rows ≡ front → length front + length last < 2 ^ 32 → length now + length last < 2 ^ 32
+  room_behind old now rows front last none is same fits =
+      let short : length (f 0 front) ≤ length front = edit.short 0 front in
+      let whole : length now ≡ length (f 0 front) = ap length (is ∙ ap (λ (xs : List (List Value)). xs ++ f 0 rows) none ∙ ap (f 0) same) in
+      omega arith
+
+  -- the last rows are edited too
+  pub all_edited : (old now rows front last : List (List Value)) (first : ℕ) → old ≡ [] → now ≡ old ++ f 0 rows → rows ≡ front → first ≡ length front → now ++ f first last ≡ f 0 (front ++ last)
+  all_edited old now rows front last first none is same at =
+      let start : now ≡ f 0 front = is ∙ ap (λ (xs : List (List Value)). xs ++ f 0 rows) none ∙ ap (f 0) same in
+      let place : first ≡ 0 + length front = let zeroth : length front ≡ 0 + length front = omega arith in at ∙ zeroth in
+      ap (λ (xs : List (List Value)). xs ++ f first last) start ∙ ap (λ (n : ℕ). f 0 front ++ f n last) place ∙ sym (edit.pieces 0 front last)
+
+  -- there is room for all of the last rows
+  pub room_for_all : (old now rows last : List (List Value)) (first : ℕ) → now ≡ old ++ f first rows → rows ≡ last → length old + length last < 2 ^ 32 → length now < 2 ^ 32
+  room_for_all old now rows last first is same fits =
+      let short : length (f first rows) ≤ length rows = edit.short first rows in
+      let count : length rows ≡ length last = ap length same in
+      let whole : length now ≡ length old + length (f first rows) = ap length is ∙ length-append old (f first rows) in
+      omega arith

@@ -137,3 +137,32 @@ run_in chunks place (suc i) c run placed point some inside is rest =
     let at = run_at 0 chunks place i c placed (omega arith) point (omega arith) in
     let here = subst (λ (b : Chunk). IsRun (rows_in_chunks chunks) (place - 0) (drop (place - b.first) (rows_in b))) found at in
     subst (λ (k : ℕ). IsRun (rows_in_chunks chunks) k run) same (subst (λ (r : List (List Value)). IsRun (rows_in_chunks chunks) (place - 0) r) (sym rest) here)
+
+take_within : (xs ys zs : List (List Value)) → take (length xs) ys ≡ xs → take (length xs) (ys ++ zs) ≡ xs
+take_within [] ys zs is = refl
+take_within (x ∷ xs) [] zs is = cc
+take_within (x ∷ xs) (y ∷ ys) zs is =
+    let first : y ≡ x = cc in
+    let rest : take (length xs) ys ≡ xs = cc in
+    rw (first, take_within xs ys zs rest) refl
+
+drop_within : (k : ℕ) (xs ys : List (List Value)) → k ≤ length xs → drop k (xs ++ ys) ≡ drop k xs ++ ys
+drop_within zero xs ys h = refl
+drop_within (suc k) [] ys h = absurd (omega arith)
+drop_within (suc k) (x ∷ xs) ys h = drop_within k xs ys (omega arith)
+
+-- a run in rows that have more behind them
+pub run_in_front : (front last run : List (List Value)) (place : ℕ) → place < length front → IsRun front place run → IsRun (front ++ last) place run
+run_in_front front last run place inside is = record {
+    begins = ap (take (length run)) (drop_within place front last (omega arith)) ∙ take_within run (drop place front) last is.begins;
+    few = is.few;
+    some = λ h. is.some inside;
+  }
+
+-- the rest of the last rows is a run
+pub run_in_last : (front last run : List (List Value)) (place : ℕ) → length last ≤ 256 → length front ≤ place → run ≡ drop (place - length front) last → IsRun (front ++ last) place run
+run_in_last front last run place few past is =
+    let same : length front + (place - length front) ≡ place = omega arith in
+    let nil : last ++ [] ≡ last = append-nil last in
+    let here = subst (λ (rows : List (List Value)). IsRun rows (place - length front) (drop (place - length front) last)) nil (run_here last [] (place - length front) few (λ h. refl)) in
+    subst (λ (k : ℕ). IsRun (front ++ last) k run) same (run_behind front last run (place - length front) (subst (λ (r : List (List Value)). IsRun last (place - length front) r) (sym is) here))

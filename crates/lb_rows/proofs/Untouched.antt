@@ -1,7 +1,8 @@
 -- Rows that no edit touches stay as they are.
-use Rattle.std.proofs.Common.{◌≡◌, refl, ap, sym, ◌∙◌, ℕ, zero, suc, ◌+◌, ◌<◌, ◌≤◌, Bool, true, false, cond, ◌||◌, List, [], ◌∷◌, length, Option, Some, None, eqb, arith}
+use Rattle.std.proofs.Common.{◌≡◌, refl, ap, sym, ◌∙◌, ℕ, zero, suc, ◌+◌, ◌<◌, ◌≤◌, Bool, true, false, cond, ◌||◌, List, [], ◌∷◌, length, Option, Some, None, Bor, eqb, arith}
 use Rattle.std.specs.Prelude.{find}
 use Rattle.std.specs.List.{list_any}
+use Rattle.std.specs.Option.{is_some, option_copied}
 use Rattle.std.proofs.lemmas.Bool.{eqb-true, le-leb, lt-ltb}
 use Rattle.lb_base.specs.declared.value.Value.{Value}
 use Rattle.lb_rows.specs.declared.edit.ChangedRow.{ChangedRow}
@@ -57,3 +58,7 @@ left_below places first end at (row ∷ rows) none low high =
 
 pub all_left : (places : List ℕ) (first end len : ℕ) (rows : List (List Value)) → list_any (is_within first end) places ≡ false → end ≡ first + len → len ≡ length rows → left_from places first rows ≡ rows
 all_left places first end len rows none ends is = left_below places first end first rows none (omega arith) (omega arith)
+
+pub none_there : {X : Type 0} (o : Option (Bor X)) → is_some o ≡ false → None ≡ option_copied o
+none_there None h = refl
+none_there (Some x) h = cc

@@ -3,7 +3,7 @@ ghost use Rattle.std.specs.Prelude.{◌≡◌, ◌≤◌, ◌<◌, ◌+◌, ◌+
 ghost use Rattle.std.specs.Option.{option_copied};
 ghost use Rattle.std.specs.Arc.{arc_value};
 ghost use Rattle.lb_rows.specs.Chunks.{IsRun};
-ghost use Rattle.lb_rows.specs.Edits.{AreInOrder, changed, left, place_of};
+ghost use Rattle.lb_rows.specs.Edits.{AreInOrder, changed, changed_from, left, left_from, place_of};
 
 use crate::builder::Builder;
 use crate::chunk::{CHUNK_LIMIT, Chunks, rest_of, run_from};
@@ -123,14 +123,9 @@ impl TableVersion {
         requires { AreInOrder place_of changes.now }
         ensures { IfOk result (λ v. arc_value v ≡ record { name = self.now.name; rows = changed changes.now self.now.rows }) }
     {
-        let first = self.front.len();
         let mut builder = Builder::empty(alloc);
         builder.change_all(alloc, self.front.as_slice(), changes)?;
-        if change_within(changes, first, self.len()).is_none() {
-            return finish_with(alloc, &self.name, builder, &self.last);
-        }
-        builder.extend_changed(alloc, first, self.last.as_slice(), changes)?;
-        finish(alloc, &self.name, builder)
+        finish_changed(alloc, &self.name, builder, self.front.len(), &self.last, changes)
     }
 
     /// The table without the rows at some places, which come in order (DELETE statement). Chunks that lose no row are shared.
@@ -138,14 +133,9 @@ impl TableVersion {
         requires { AreInOrder (λ place. place) places.now }
         ensures { IfOk result (λ v. arc_value v ≡ record { name = self.now.name; rows = left places.now self.now.rows }) }
     {
-        let first = self.front.len();
         let mut builder = Builder::empty(alloc);
         builder.leave_out_all(alloc, self.front.as_slice(), places)?;
-        if !has_place_within(places, first, self.len()) {
-            return finish_with(alloc, &self.name, builder, &self.last);
-        }
-        builder.extend_left(alloc, first, self.last.as_slice(), places)?;
-        finish(alloc, &self.name, builder)
+        finish_left(alloc, &self.name, builder, self.front.len(), &self.last, places)
     }
 }
 
@@ -166,6 +156,40 @@ fn finish_with(alloc: Global, name: &Name, builder: Builder, last: &Arc<RowList>
 {
     let chunks = builder.close(alloc)?;
     made(alloc, name, Arc::new(alloc, chunks)?, last.clone()?)
+}
+
+/// The version with these rows and those of a last chunk after the changes, which begins at the given place. It is shared where
+/// none of its rows is changed.
+fn finish_changed(alloc: Global, name: &Name, mut builder: Builder, first: u32, last: &Arc<RowList>, changes: &[ChangedRow]) -> Result<Arc<TableVersion>, NoMemory>
+    requires order { AreInOrder place_of changes.now }
+    requires few { length (arc_value last.now) ≤ CHUNK_LIMIT }
+    requires inside { first + length (arc_value last.now) < 2 ^ 32 }
+    requires fits { length builder + length (arc_value last.now) < 2 ^ 32 }
+    ensures { IfOk result (λ v. arc_value v ≡ record { name = name.now; rows = builder ++ changed_from changes.now first (arc_value last.now) }) }
+{
+    let end = first + last.len() as u32;
+    if change_within(changes, first, end).is_none() {
+        return finish_with(alloc, name, builder, last);
+    }
+    builder.extend_changed(alloc, first, last.as_slice(), changes)?;
+    finish(alloc, name, builder)
+}
+
+/// The version with these rows and those of a last chunk without the rows at the places, which begins at the given place. It is
+/// shared where all of its rows stay.
+fn finish_left(alloc: Global, name: &Name, mut builder: Builder, first: u32, last: &Arc<RowList>, places: &[u32]) -> Result<Arc<TableVersion>, NoMemory>
+    requires order { AreInOrder (λ place. place) places.now }
+    requires few { length (arc_value last.now) ≤ CHUNK_LIMIT }
+    requires inside { first + length (arc_value last.now) < 2 ^ 32 }
+    requires fits { length builder + length (arc_value last.now) < 2 ^ 32 }
+    ensures { IfOk result (λ v. arc_value v ≡ record { name = name.now; rows = builder ++ left_from places.now first (arc_value last.now) }) }
+{
+    let end = first + last.len() as u32;
+    if !has_place_within(places, first, end) {
+        return finish_with(alloc, name, builder, last);
+    }
+    builder.extend_left(alloc, first, last.as_slice(), places)?;
+    finish(alloc, name, builder)
 }
 
 fn made(alloc: Global, name: &Name, front: Arc<Chunks>, last: Arc<RowList>) -> Result<Arc<TableVersion>, NoMemory>
