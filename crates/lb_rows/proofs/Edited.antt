@@ -26,7 +26,7 @@ changed_pieces changes at [] ys = let same : at ≡ at + 0 = omega arith in ap (
 changed_pieces changes at (x ∷ xs) ys =
     let same : suc at + length xs ≡ at + suc (length xs) = omega arith in
     ap (λ (rows : List (List Value)). changed_row changes at x ∷ rows)
-      (changed_pieces changes (suc at) xs ys ∙ ap (λ (n : ℕ). changed_from changes (suc at) xs ++ changed_from changes n ys) same)
+    (changed_pieces changes (suc at) xs ys ∙ ap (λ (n : ℕ). changed_from changes (suc at) xs ++ changed_from changes n ys) same)
 
 changed_short : (changes : List ChangedRow) (at : ℕ) (xs : List (List Value)) → length (changed_from changes at xs) ≤ length xs
 changed_short changes at [] = omega arith
@@ -40,9 +40,9 @@ left_pieces places at [] ys = let same : at ≡ at + 0 = omega arith in ap (λ (
 left_pieces places at (x ∷ xs) ys =
     let same : suc at + length xs ≡ at + suc (length xs) = omega arith in
     let rest : left_from places (suc at) (xs ++ ys) ≡ left_from places (suc at) xs ++ left_from places (at + suc (length xs)) ys =
-          left_pieces places (suc at) xs ys ∙ ap (λ (n : ℕ). left_from places (suc at) xs ++ left_from places n ys) same in
+    left_pieces places (suc at) xs ys ∙ ap (λ (n : ℕ). left_from places (suc at) xs ++ left_from places n ys) same in
     elim (is_among places at) as (λ b. cond b (left_from places (suc at) (xs ++ ys)) (x ∷ left_from places (suc at) (xs ++ ys))
-        ≡ cond b (left_from places (suc at) xs) (x ∷ left_from places (suc at) xs) ++ left_from places (at + suc (length xs)) ys) [
+    ≡ cond b (left_from places (suc at) xs) (x ∷ left_from places (suc at) xs) ++ left_from places (at + suc (length xs)) ys) [
       | true ↦ rest
       | false ↦ ap (λ (rows : List (List Value)). x ∷ rows) rest
     ]
@@ -68,7 +68,7 @@ pub record StandsAt (chunks : List Chunk) (at i : ℕ) (c : Chunk) : Type 0 wher
 
 stands_here : (at : ℕ) (chunks : List Chunk) (i : ℕ) (d : Chunk) → ArePlaced at chunks → i < length chunks
     → ((get_or chunks i d).first ≡ at + length (rows_in_chunks (take i chunks))) × (length (rows_in (get_or chunks i d)) ≤ 256)
-      × (length (rows_in_chunks (take i chunks)) + length (rows_in (get_or chunks i d)) ≤ length (rows_in_chunks chunks))
+    × (length (rows_in_chunks (take i chunks)) + length (rows_in (get_or chunks i d)) ≤ length (rows_in_chunks chunks))
 stands_here at [] i d placed inside = absurd (omega arith)
 stands_here at (c ∷ chunks) zero d placed inside =
     let longer : length (rows_in c ++ rows_in_chunks chunks) ≡ length (rows_in c) + length (rows_in_chunks chunks) = length-append (rows_in c) (rows_in_chunks chunks) in
@@ -104,9 +104,9 @@ module _ (f : ℕ → List (List Value) → List (List Value)) (edit : IsEdit f)
       let taken : length (take i rows) ≡ i = length-take-le i rows (omega arith) in
       let further : take (i + 1) rows ≡ take i rows ++ row ∷ [] = take_more rows i row inside ∙ ap (λ (r : List Value). take i rows ++ r ∷ []) (sym is) in
       let joined : f at (take i rows ++ row ∷ []) ≡ f at (take i rows) ++ f place (row ∷ []) =
-            edit.pieces at (take i rows) (row ∷ []) ∙ ap (λ (n : ℕ). f at (take i rows) ++ f n (row ∷ [])) (ap (λ (n : ℕ). at + n) taken ∙ sym there) in
+      edit.pieces at (take i rows) (row ∷ []) ∙ ap (λ (n : ℕ). f at (take i rows) ++ f n (row ∷ [])) (ap (λ (n : ℕ). at + n) taken ∙ sym there) in
       more ∙ ap (λ (rs : List (List Value)). rs ++ f place (row ∷ [])) so_far ∙ append_assoc old (f at (take i rows)) (f place (row ∷ []))
-        ∙ ap (λ (rs : List (List Value)). old ++ rs) (sym (ap (f at) further ∙ joined))
+      ∙ ap (λ (rs : List (List Value)). old ++ rs) (sym (ap (f at) further ∙ joined))
 
   -- there is room for one more row
   pub room_for_row : (old now rows : List (List Value)) (at i : ℕ) → i < length rows → length old + length rows < 2 ^ 32 → now ≡ old ++ f at (take i rows) → length now + 1 < 2 ^ 32
@@ -122,7 +122,7 @@ module _ (f : ℕ → List (List Value) → List (List Value)) (edit : IsEdit f)
   next_chunk old now new chunks i c stands so_far more =
       let before : List (List Value) = rows_in_chunks (take i chunks) in
       let joined : f 0 (rows_in_chunks (take (i + 1) chunks)) ≡ f 0 before ++ f c.first (rows_in c) =
-            ap (f 0) stands.next ∙ edit.pieces 0 before (rows_in c) ∙ ap (λ (n : ℕ). f 0 before ++ f n (rows_in c)) (sym stands.first) in
+      ap (f 0) stands.next ∙ edit.pieces 0 before (rows_in c) ∙ ap (λ (n : ℕ). f 0 before ++ f n (rows_in c)) (sym stands.first) in
       more ∙ ap (λ (rs : List (List Value)). rs ++ f c.first (rows_in c)) so_far ∙ append_assoc old (f 0 before) (f c.first (rows_in c)) ∙ ap (λ (rs : List (List Value)). old ++ rs) (sym joined)
 
   -- there is room for the rows of one more chunk

@@ -56,7 +56,7 @@ module _ {X : Type 0} (n : X → ℕ) (first end : ℕ) where
       let under : n x < first = ltb-true (n x) first (point.0 0 x (omega arith) (omega arith)) in
       let out : within x ≡ false = before first end (n x) under in
       rw out (found xs i (λ a b d h within. order (suc a) (suc b) d (omega arith) (omega arith))
-        ((λ k d low high. point.0 (suc k) d (omega arith) (omega arith)), (λ k d low high. point.1 (suc k) d (omega arith) (omega arith))))
+      ((λ k d low high. point.0 (suc k) d (omega arith) (omega arith)), (λ k d low high. point.1 (suc k) d (omega arith) (omega arith))))
 
   -- whether there is one
   pub any_found : (xs : List X) → list_any within xs ≡ is_some (find within xs)

@@ -88,16 +88,16 @@ pub run_at : (at : ℕ) (chunks : List Chunk) (place i : ℕ) (d : Chunk) → Ar
 run_at at [] place i d placed reached point inside = absurd (omega arith)
 run_at at (c ∷ chunks) place zero d placed reached point inside =
     let here = run_here (rows_in c) (rows_in_chunks chunks) (place - at) placed.1
-          (ends_here at chunks place (length (rows_in c)) placed.2 reached (λ k e h. point.1 (suc k) e (omega arith) (omega arith))) in
+    (ends_here at chunks place (length (rows_in c)) placed.2 reached (λ k e h. point.1 (suc k) e (omega arith) (omega arith))) in
     subst (λ (n : ℕ). IsRun (rows_in c ++ rows_in_chunks chunks) (place - at) (drop (place - n) (rows_in c))) (sym placed.0) here
 run_at at (c ∷ chunks) place (suc i) d placed reached point inside =
     let least : at + length (rows_in c) ≤ (get_or chunks i d).first = at_least (at + length (rows_in c)) chunks placed.2 i d (omega arith) in
     let under : (get_or chunks i d).first ≤ place = leb-true (get_or chunks i d).first place (point.0 (suc i) d (omega arith) (omega arith)) in
     let later = run_at (at + length (rows_in c)) chunks place i d placed.2 (omega arith)
-          ((λ k e low high. point.0 (suc k) e (omega arith) (omega arith)), (λ k e low high. point.1 (suc k) e (omega arith) (omega arith))) (omega arith) in
+    ((λ k e low high. point.0 (suc k) e (omega arith) (omega arith)), (λ k e low high. point.1 (suc k) e (omega arith) (omega arith))) (omega arith) in
     let same : length (rows_in c) + (place - (at + length (rows_in c))) ≡ place - at = omega arith in
     subst (λ (k : ℕ). IsRun (rows_in c ++ rows_in_chunks chunks) k (drop (place - (get_or chunks i d).first) (rows_in (get_or chunks i d)))) same
-      (run_behind (rows_in c) (rows_in_chunks chunks) _ (place - (at + length (rows_in c))) later)
+    (run_behind (rows_in c) (rows_in_chunks chunks) _ (place - (at + length (rows_in c))) later)
 
 -- where no chunk begins at the place or before it there are no rows
 pub none_at : (chunks : List Chunk) (place : ℕ) → ArePlaced 0 chunks → IsPartitionPoint (λ c. leb (first_of c) place ≡ true) (λ c. leb (first_of c) place ≡ false) chunks 0
@@ -154,10 +154,10 @@ drop_within (suc k) (x ∷ xs) ys h = drop_within k xs ys (omega arith)
 -- a run in rows that have more behind them
 pub run_in_front : (front last run : List (List Value)) (place : ℕ) → place < length front → IsRun front place run → IsRun (front ++ last) place run
 run_in_front front last run place inside is = record {
-    begins = ap (take (length run)) (drop_within place front last (omega arith)) ∙ take_within run (drop place front) last is.begins;
-    few = is.few;
-    some = λ h. is.some inside;
-  }
+  begins = ap (take (length run)) (drop_within place front last (omega arith)) ∙ take_within run (drop place front) last is.begins;
+  few = is.few;
+  some = λ h. is.some inside;
+}
 
 -- the rest of the last rows is a run
 pub run_in_last : (front last run : List (List Value)) (place : ℕ) → length last ≤ 256 → length front ≤ place → run ≡ drop (place - length front) last → IsRun (front ++ last) place run

@@ -89,7 +89,13 @@ impl Builder {
     }
 
     /// Puts copies of the rows at the end, the first of which has the given place, or their new rows where they are changed.
-    pub(crate) fn extend_changed(&mut self, alloc: Global, first: u32, rows: &[Row], changes: &[ChangedRow]) -> Result<(), NoMemory>
+    pub(crate) fn extend_changed(
+        &mut self,
+        alloc: Global,
+        first: u32,
+        rows: &[Row],
+        changes: &[ChangedRow],
+    ) -> Result<(), NoMemory>
         requires order { AreInOrder place_of changes.now }
         requires inside { first + length rows.now < 2 ^ 32 }
         requires fits { length self.old + length rows.now < 2 ^ 32 }
@@ -104,7 +110,13 @@ impl Builder {
     }
 
     /// The rows of a chunk after the changes; they are shared where none of them is changed.
-    pub(crate) fn change(&mut self, alloc: Global, first: u32, rows: &Arc<RowList>, changes: &[ChangedRow]) -> Result<(), NoMemory>
+    pub(crate) fn change(
+        &mut self,
+        alloc: Global,
+        first: u32,
+        rows: &Arc<RowList>,
+        changes: &[ChangedRow],
+    ) -> Result<(), NoMemory>
         requires order { AreInOrder place_of changes.now }
         requires few { length (arc_value rows.now) ≤ CHUNK_LIMIT }
         requires inside { first + length (arc_value rows.now) < 2 ^ 32 }
@@ -119,7 +131,12 @@ impl Builder {
     }
 
     /// The rows of these chunks after the changes.
-    pub(crate) fn change_all(&mut self, alloc: Global, chunks: &[Chunk], changes: &[ChangedRow]) -> Result<(), NoMemory>
+    pub(crate) fn change_all(
+        &mut self,
+        alloc: Global,
+        chunks: &[Chunk],
+        changes: &[ChangedRow],
+    ) -> Result<(), NoMemory>
         requires order { AreInOrder place_of changes.now }
         requires placed { ArePlaced 0 chunks.now }
         requires inside { length (rows_in_chunks chunks.now) < 2 ^ 32 }
@@ -133,7 +150,13 @@ impl Builder {
     }
 
     /// Puts copies of the rows at the end, the first of which has the given place, without those at the places.
-    pub(crate) fn extend_left(&mut self, alloc: Global, first: u32, rows: &[Row], places: &[u32]) -> Result<(), NoMemory>
+    pub(crate) fn extend_left(
+        &mut self,
+        alloc: Global,
+        first: u32,
+        rows: &[Row],
+        places: &[u32],
+    ) -> Result<(), NoMemory>
         requires order { AreInOrder (λ place. place) places.now }
         requires inside { first + length rows.now < 2 ^ 32 }
         requires fits { length self.old + length rows.now < 2 ^ 32 }
@@ -148,7 +171,13 @@ impl Builder {
     }
 
     /// Puts a copy of the row at the end, unless its place is one of those.
-    fn leave(&mut self, alloc: Global, place: u32, row: &Row, places: &[u32]) -> Result<(), NoMemory>
+    fn leave(
+        &mut self,
+        alloc: Global,
+        place: u32,
+        row: &Row,
+        places: &[u32],
+    ) -> Result<(), NoMemory>
         requires order { AreInOrder (λ place. place) places.now }
         requires inside { place + 1 < 2 ^ 32 }
         requires fits { length self.old + 1 < 2 ^ 32 }
@@ -162,7 +191,13 @@ impl Builder {
     }
 
     /// The rows of a chunk without those at the places; they are shared where all of them stay.
-    pub(crate) fn leave_out(&mut self, alloc: Global, first: u32, rows: &Arc<RowList>, places: &[u32]) -> Result<(), NoMemory>
+    pub(crate) fn leave_out(
+        &mut self,
+        alloc: Global,
+        first: u32,
+        rows: &Arc<RowList>,
+        places: &[u32],
+    ) -> Result<(), NoMemory>
         requires order { AreInOrder (λ place. place) places.now }
         requires few { length (arc_value rows.now) ≤ CHUNK_LIMIT }
         requires inside { first + length (arc_value rows.now) < 2 ^ 32 }
@@ -178,7 +213,12 @@ impl Builder {
     }
 
     /// The rows of these chunks without those at the places.
-    pub(crate) fn leave_out_all(&mut self, alloc: Global, chunks: &[Chunk], places: &[u32]) -> Result<(), NoMemory>
+    pub(crate) fn leave_out_all(
+        &mut self,
+        alloc: Global,
+        chunks: &[Chunk],
+        places: &[u32],
+    ) -> Result<(), NoMemory>
         requires order { AreInOrder (λ place. place) places.now }
         requires placed { ArePlaced 0 chunks.now }
         requires inside { length (rows_in_chunks chunks.now) < 2 ^ 32 }

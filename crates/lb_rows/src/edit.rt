@@ -1,9 +1,10 @@
 // Edits of rows by their places: which row is changed or left out, found by halves.
-ghost use Rattle.std.specs.Prelude.{◌≡◌, ◌+◌, ◌<◌, ◌^◌, find, slice_get, IfOk};
+ghost use Rattle.std.specs.Prelude.{◌≡◌, ◌+◌, ◌<◌, ◌^◌, find, IfOk};
 ghost use Rattle.std.specs.Option.{option_copied};
 ghost use Rattle.std.specs.List.{list_any};
 ghost use Rattle.lb_rows.specs.Edits.{AreInOrder, changed_row, is_among, is_change_within, is_within, place_of};
 
+use crate::item::item_at;
 use lb_base::{NoMemory, Row};
 use std::alloc::Global;
 
@@ -45,7 +46,12 @@ pub(crate) fn has_place_within(places: &[u32], first: u32, end: u32) -> bool
 }
 
 /// A copy of the row, or of its new row where it is changed.
-pub(crate) fn row_after(alloc: Global, changes: &[ChangedRow], place: u32, row: &Row) -> Result<Row, NoMemory>
+pub(crate) fn row_after(
+    alloc: Global,
+    changes: &[ChangedRow],
+    place: u32,
+    row: &Row,
+) -> Result<Row, NoMemory>
     requires order { AreInOrder place_of changes.now }
     requires inside { place + 1 < 2 ^ 32 }
     ensures { IfOk result (λ r. r ≡ changed_row changes.now place row.now) }
@@ -63,11 +69,4 @@ pub(crate) fn is_at(places: &[u32], place: u32) -> bool
     ensures { result ≡ is_among places.now place }
 {
     has_place_within(places, place, place + 1)
-}
-
-/// The item at a place, counted from 0. None exactly past the last one.
-fn item_at<T>(items: &[T], place: usize) -> Option<&T>
-    ensures { option_copied result ≡ slice_get items.now place }
-{
-    items.get(place)
 }

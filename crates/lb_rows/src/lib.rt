@@ -4,6 +4,7 @@
 mod builder;
 mod chunk;
 mod edit;
+mod item;
 mod snap;
 mod version;
 

@@ -8,6 +8,7 @@ ghost use Rattle.lb_rows.specs.Lists.{put, without};
 ghost use Rattle.lb_rows.specs.Stamped.{Stamped, is_stamped, rows_only, stamp_of, stamped_in, stamped_of};
 ghost use Rattle.lb_rows.specs.Tables.{drop_version, is_version, put_version};
 
+use crate::item::item_at;
 use crate::version::TableVersion;
 use arrayvec::ArrayVec;
 use lb_base::{Name, NoMemory};
@@ -106,13 +107,7 @@ impl Snap {
         ensures stamped { self.new ≡ put (is_stamped (arc_value version).name) (record { version = arc_value version; stamp = stamp }) self.old }
         ensures rows { rows_only self.new ≡ put_version (arc_value version) (rows_only self.old) }
     {
-        let place = place_of(self.versions.as_slice(), version.name());
-        let stamped = Some(StampedVersion { version, stamp });
-        if place < self.versions.len() {
-            self.versions[place] = stamped;
-        } else {
-            self.versions.push(stamped);
-        }
+        put_in(&mut self.versions, StampedVersion { version, stamp });
     }
 
     /// Takes a table's version out. The others keep their order, and an absent table changes nothing. It takes no memory.
@@ -138,9 +133,9 @@ fn held(versions: &[Option<StampedVersion>], place: usize) -> Option<&StampedVer
     requires { AllThere versions.now }
     ensures { option_copied result ≡ slice_get (versions_in versions.now) place }
 {
-    match versions.get(place) {
-        Some(Some(version)) => Some(version),
-        _ => None,
+    match item_at(versions, place) {
+        Some(version) => version.as_ref(),
+        None => None,
     }
 }
 
@@ -175,6 +170,21 @@ fn found<'a>(versions: &'a [Option<StampedVersion>], table: &Name) -> Option<&'a
     held(versions, place_of(versions, table))
 }
 
+/// Puts a version in the first place that has one of its table, or last where there is none.
+fn put_in(versions: &mut ArrayVec<Option<StampedVersion>, { TABLE_LIMIT }>, stamped: StampedVersion)
+    requires there { AllThere versions.old.items }
+    requires room { IsSome (find (is_of (arc_value stamped.version).name) (versions_in versions.old.items)) ⊎ (length versions.old.items < TABLE_LIMIT) }
+    ensures there { AllThere versions.new.items }
+    ensures put { versions_in versions.new.items ≡ put (is_of (arc_value stamped.version).name) stamped (versions_in versions.old.items) }
+{
+    let place = place_of(versions.as_slice(), stamped.version.name());
+    if place < versions.len() {
+        versions[place] = Some(stamped);
+    } else {
+        versions.push(Some(stamped));
+    }
+}
+
 /// Takes the versions of a table out.
 fn take_out(versions: &mut ArrayVec<Option<StampedVersion>, { TABLE_LIMIT }>, table: &Name)
     requires { AllThere versions.old.items }
@@ -185,7 +195,10 @@ fn take_out(versions: &mut ArrayVec<Option<StampedVersion>, { TABLE_LIMIT }>, ta
 }
 
 /// Puts all of these versions behind the others; they are shared.
-fn share_all(versions: &[Option<StampedVersion>], shared: &mut ArrayVec<Option<StampedVersion>, { TABLE_LIMIT }>) -> Result<(), NoMemory>
+fn share_all(
+    versions: &[Option<StampedVersion>],
+    shared: &mut ArrayVec<Option<StampedVersion>, { TABLE_LIMIT }>,
+) -> Result<(), NoMemory>
     requires there { AllThere versions.now }
     requires fits { length versions.now ≤ TABLE_LIMIT }
     requires none { shared.old.items ≡ [] }

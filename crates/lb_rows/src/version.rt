@@ -95,7 +95,12 @@ impl TableVersion {
         if self.last.len() + rows.len() <= CHUNK_LIMIT {
             let mut last = self.last.copy(alloc)?;
             last.append(rows)?;
-            return made(alloc, &self.name, self.front.clone()?, Arc::new(alloc, last)?);
+            return made(
+                alloc,
+                &self.name,
+                self.front.clone()?,
+                Arc::new(alloc, last)?,
+            );
         }
         let mut builder = self.reopened(alloc)?;
         builder.extend(alloc, rows.as_slice())?;
@@ -119,13 +124,24 @@ impl TableVersion {
     /// The table after changes of some rows, which get new ones (UPDATE statement). The changes come in the order of their
     /// places; where two have one place the first counts, and one past the last row changes nothing. Chunks without a change
     /// are shared.
-    pub fn with_changed(&self, alloc: Global, changes: &[ChangedRow]) -> Result<Arc<TableVersion>, NoMemory>
+    pub fn with_changed(
+        &self,
+        alloc: Global,
+        changes: &[ChangedRow],
+    ) -> Result<Arc<TableVersion>, NoMemory>
         requires { AreInOrder place_of changes.now }
         ensures { IfOk result (λ v. arc_value v ≡ record { name = self.now.name; rows = changed changes.now self.now.rows }) }
     {
         let mut builder = Builder::empty(alloc);
         builder.change_all(alloc, self.front.as_slice(), changes)?;
-        finish_changed(alloc, &self.name, builder, self.front.len(), &self.last, changes)
+        finish_changed(
+            alloc,
+            &self.name,
+            builder,
+            self.front.len(),
+            &self.last,
+            changes,
+        )
     }
 
     /// The table without the rows at some places, which come in order (DELETE statement). Chunks that lose no row are shared.
@@ -135,7 +151,14 @@ impl TableVersion {
     {
         let mut builder = Builder::empty(alloc);
         builder.leave_out_all(alloc, self.front.as_slice(), places)?;
-        finish_left(alloc, &self.name, builder, self.front.len(), &self.last, places)
+        finish_left(
+            alloc,
+            &self.name,
+            builder,
+            self.front.len(),
+            &self.last,
+            places,
+        )
     }
 }
 
@@ -145,11 +168,21 @@ fn finish(alloc: Global, name: &Name, builder: Builder) -> Result<Arc<TableVersi
     ensures { IfOk result (λ v. arc_value v ≡ record { name = name.now; rows = builder }) }
 {
     let (chunks, last) = builder.parts();
-    made(alloc, name, Arc::new(alloc, chunks)?, Arc::new(alloc, last)?)
+    made(
+        alloc,
+        name,
+        Arc::new(alloc, chunks)?,
+        Arc::new(alloc, last)?,
+    )
 }
 
 /// The version with these rows and a last chunk, which is shared.
-fn finish_with(alloc: Global, name: &Name, builder: Builder, last: &Arc<RowList>) -> Result<Arc<TableVersion>, NoMemory>
+fn finish_with(
+    alloc: Global,
+    name: &Name,
+    builder: Builder,
+    last: &Arc<RowList>,
+) -> Result<Arc<TableVersion>, NoMemory>
     requires few { length (arc_value last.now) ≤ CHUNK_LIMIT }
     requires fits { length builder + length (arc_value last.now) < 2 ^ 32 }
     ensures { IfOk result (λ v. arc_value v ≡ record { name = name.now; rows = builder ++ arc_value last.now }) }
@@ -160,7 +193,14 @@ fn finish_with(alloc: Global, name: &Name, builder: Builder, last: &Arc<RowList>
 
 /// The version with these rows and those of a last chunk after the changes, which begins at the given place. It is shared where
 /// none of its rows is changed.
-fn finish_changed(alloc: Global, name: &Name, mut builder: Builder, first: u32, last: &Arc<RowList>, changes: &[ChangedRow]) -> Result<Arc<TableVersion>, NoMemory>
+fn finish_changed(
+    alloc: Global,
+    name: &Name,
+    mut builder: Builder,
+    first: u32,
+    last: &Arc<RowList>,
+    changes: &[ChangedRow],
+) -> Result<Arc<TableVersion>, NoMemory>
     requires order { AreInOrder place_of changes.now }
     requires few { length (arc_value last.now) ≤ CHUNK_LIMIT }
     requires inside { first + length (arc_value last.now) < 2 ^ 32 }
@@ -177,7 +217,14 @@ fn finish_changed(alloc: Global, name: &Name, mut builder: Builder, first: u32, 
 
 /// The version with these rows and those of a last chunk without the rows at the places, which begins at the given place. It is
 /// shared where all of its rows stay.
-fn finish_left(alloc: Global, name: &Name, mut builder: Builder, first: u32, last: &Arc<RowList>, places: &[u32]) -> Result<Arc<TableVersion>, NoMemory>
+fn finish_left(
+    alloc: Global,
+    name: &Name,
+    mut builder: Builder,
+    first: u32,
+    last: &Arc<RowList>,
+    places: &[u32],
+) -> Result<Arc<TableVersion>, NoMemory>
     requires order { AreInOrder (λ place. place) places.now }
     requires few { length (arc_value last.now) ≤ CHUNK_LIMIT }
     requires inside { first + length (arc_value last.now) < 2 ^ 32 }
@@ -192,7 +239,12 @@ fn finish_left(alloc: Global, name: &Name, mut builder: Builder, first: u32, las
     finish(alloc, name, builder)
 }
 
-fn made(alloc: Global, name: &Name, front: Arc<Chunks>, last: Arc<RowList>) -> Result<Arc<TableVersion>, NoMemory>
+fn made(
+    alloc: Global,
+    name: &Name,
+    front: Arc<Chunks>,
+    last: Arc<RowList>,
+) -> Result<Arc<TableVersion>, NoMemory>
     requires few { length (arc_value last) ≤ CHUNK_LIMIT }
     requires fits { length (arc_value front) + length (arc_value last) < 2 ^ 32 }
     ensures { IfOk result (λ v. arc_value v ≡ record { name = name.now; rows = arc_value front ++ arc_value last }) }

@@ -17,4 +17,4 @@ pub returns : goal.returns
 returns c =
     let point = IsPartitionPoint-from_clause (λ x. leb (first_of x) c.args.place) _ _ c.partition_point-after.ensures.partitioned (IsPartitionedBy-leb first_of c.args.chunks.now c.args.place (in_order 0 c.args.chunks.now c.requires)) (λ a r q k. search rules) in
     run_in c.args.chunks.now c.args.place c.partition_point-after.result c.index-chunks-after.result _ c.requires point c.if-after-eq0.false c.partition_point-after.ensures.bound c.index-chunks-after.is
-      (c.rest_of.ensures ∙ ap (drop (c.args.place - c.index-chunks-after.result.first)) (c.as_slice.ensures ∙ c.deref.ensures))
+    (c.rest_of.ensures ∙ ap (drop (c.args.place - c.index-chunks-after.result.first)) (c.as_slice.ensures ∙ c.deref.ensures))

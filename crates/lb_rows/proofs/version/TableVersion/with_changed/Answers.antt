@@ -12,11 +12,11 @@ finish_changed-requires-clause-inside c = subst (λ n. n + length (arc_value c.s
 pub finish_changed-requires-clause-fits : goal.finish_changed-requires-clause-fits
 finish_changed-requires-clause-fits c =
     room_behind (changed_from c.args.changes.now) (changed_is_edit c.args.changes.now) c.empty-builder.result c.change_all.new.self _ (arc_value c.self.inside.front) (arc_value c.self.inside.last)
-      c.empty-builder.ensures c.in_ok-change_all.ensures (c.as_slice.ensures.rows ∙ c.deref.ensures) c.self.invariant.1
+    c.empty-builder.ensures c.in_ok-change_all.ensures (c.as_slice.ensures.rows ∙ c.deref.ensures) c.self.invariant.1
 
 pub returns : goal.returns
 returns c =
     let edited = all_edited (changed_from c.args.changes.now) (changed_is_edit c.args.changes.now) c.empty-builder.result c.change_all.new.self _ (arc_value c.self.inside.front) (arc_value c.self.inside.last) c.len.result
-          c.empty-builder.ensures c.in_ok-change_all.ensures (c.as_slice.ensures.rows ∙ c.deref.ensures) (c.len.ensures ∙ ap length c.deref-2.ensures) in
+    c.empty-builder.ensures c.in_ok-change_all.ensures (c.as_slice.ensures.rows ∙ c.deref.ensures) (c.len.ensures ∙ ap length c.deref-2.ensures) in
     subst (λ (v : Version). IfOk c.finish_changed.result (λ x. arc_value x ≡ record { name = v.name; rows = changed c.args.changes.now v.rows })) c.self.view_is
-      (subst (λ (rows : List (List Value)). IfOk c.finish_changed.result (λ x. arc_value x ≡ record { name = c.self.inside.name; rows = rows })) edited c.finish_changed.ensures)
+    (subst (λ (rows : List (List Value)). IfOk c.finish_changed.result (λ x. arc_value x ≡ record { name = c.self.inside.name; rows = rows })) edited c.finish_changed.ensures)
