@@ -60,12 +60,12 @@ impl TableVersion {
     pub fn row(&self, place: u32) -> Option<&Row>
         ensures { option_copied result ≡ slice_get self.now.rows place }
     {
-        self.run(place).first()
+        self.rows_from(place).first()
     }
 
     /// Rows from a place on, as far as they stand in one chunk: at most 256, and none exactly past the last row. A scan that
     /// goes on behind each run takes constant time a row.
-    pub fn run(&self, place: u32) -> &[Row]
+    pub fn rows_from(&self, place: u32) -> &[Row]
         ensures { IsRun self.now.rows place result.now }
     {
         let front = self.front.len();

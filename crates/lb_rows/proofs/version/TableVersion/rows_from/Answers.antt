@@ -4,7 +4,7 @@ use Rattle.lb_base.specs.declared.value.Value.{Value}
 use Rattle.lb_rows.specs.Chunks.{IsRun}
 use Rattle.lb_rows.specs.Tables.{Version}
 use Rattle.lb_rows.proofs.Placed.{run_in_front, run_in_last}
-use Rattle.lb_rows.proofs.version.TableVersion.run.Goals as goal
+use Rattle.lb_rows.proofs.version.TableVersion.rows_from.Goals as goal
 
 pub returns-then-place-front : goal.returns-then-place-front
 returns-then-place-front c =
