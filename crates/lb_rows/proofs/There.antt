@@ -1,5 +1,5 @@
 -- The versions of a snapshot as a list, where the code keeps them in 64 places.
-use Rattle.std.proofs.Common.{◌≡◌, refl, ap, sym, ◌∙◌, ℕ, zero, suc, ◌+◌, ◌<◌, ◌≤◌, Bool, true, false, cond, not, List, [], ◌∷◌, ◌++◌, map, length, take, drop, set, get_or, Option, Some, None, inl, inr, arith, subst}
+use Rattle.std.proofs.Common.{◌≡◌, refl, ap, sym, ◌∙◌, ℕ, zero, suc, ◌+◌, ◌<◌, ◌≤◌, Bool, true, false, cond, not, List, [], ◌∷◌, ◌++◌, length, take, drop, set, get_or, Option, Some, None, inl, inr, arith, subst}
 use Rattle.std.specs.Prelude.{find, option_map, IsSome, ◌⊎◌}
 use Rattle.std.specs.List.{position_or_len, refill, slice_get}
 use Rattle.std.specs.List.Retain.{RetainsInTurn}

@@ -64,7 +64,7 @@ impl TableVersion {
     }
 
     /// Rows from a place on, as far as they stand in one chunk: at most 256, and none exactly past the last row. A scan that
-    /// goes on behind each run takes constant time a row.
+    /// goes on behind each run looks for each chunk once.
     pub fn rows_from(&self, place: u32) -> &[Row]
         ensures { IsRun self.now.rows place result.now }
     {

@@ -1,6 +1,5 @@
-use Rattle.std.proofs.Common.{◌≡◌, ◌∙◌, sym, ap, ℕ, ◌<◌, ◌≤◌, length, Option, None, true, arith, subst}
+use Rattle.std.proofs.Common.{◌≡◌, ◌∙◌, sym, ap, ◌≤◌, length, None, true, arith}
 use Rattle.std.proofs.lemmas.List.Sums.{position_or_len_is}
-use Rattle.lb_rows.specs.declared.snap.StampedVersion.{StampedVersion}
 use Rattle.lb_rows.specs.Kept.{holds}
 use Rattle.lb_rows.proofs.snap.place_of.Goals as goal
 

@@ -1,6 +1,5 @@
-use Rattle.std.proofs.Common.{◌≡◌, ◌∙◌, sym, ap, refl, length, true, false, not, None, Option, ◌+◌, ◌<◌, ◌^◌}
+use Rattle.std.proofs.Common.{◌∙◌, sym, ap, refl, length, not, ◌+◌}
 use Rattle.std.specs.Arc.{arc_value}
-use Rattle.std.specs.Option.{option_copied}
 use Rattle.lb_rows.specs.Edits.{changed_from}
 use Rattle.lb_rows.proofs.Edited.{changed_is_edit, room_for_all}
 use Rattle.lb_rows.proofs.Untouched.{none_there, unchanged}

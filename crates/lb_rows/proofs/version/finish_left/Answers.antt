@@ -1,4 +1,4 @@
-use Rattle.std.proofs.Common.{◌≡◌, ◌∙◌, sym, ap, refl, length, true, false, not, None, Option, ◌+◌, ◌<◌, ◌^◌}
+use Rattle.std.proofs.Common.{◌∙◌, sym, ap, refl, length, ◌+◌}
 use Rattle.std.specs.Arc.{arc_value}
 use Rattle.lb_rows.specs.Edits.{left_from}
 use Rattle.lb_rows.proofs.Edited.{left_is_edit, room_for_all}

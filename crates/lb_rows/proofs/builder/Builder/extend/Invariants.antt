@@ -1,4 +1,4 @@
-use Rattle.std.proofs.Common.{◌≡◌, ◌+◌, ◌++◌, take}
+use Rattle.std.proofs.Common.{◌≡◌, ◌++◌, take}
 use Rattle.lb_rows.proofs.builder.Builder.extend.Given as goal
 
 -- the copies so far stand behind the rows that were there

@@ -1,4 +1,4 @@
-use Rattle.std.proofs.Common.{◌≡◌, ◌+◌, ◌++◌, take}
+use Rattle.std.proofs.Common.{◌≡◌, ◌++◌, take}
 use Rattle.lb_rows.specs.Chunks.{rows_in_chunks}
 use Rattle.lb_rows.specs.Edits.{left_from}
 use Rattle.lb_rows.proofs.builder.Builder.leave_out_all.Given as goal

@@ -1,4 +1,4 @@
-use Rattle.lb_rows.proofs.Edited.{kept_from, kept_is_edit, inside_all, next_chunk, room_for_chunk, stands_at}
+use Rattle.lb_rows.proofs.Edited.{kept_from, kept_is_edit, next_chunk, room_for_chunk, stands_at}
 use Rattle.lb_rows.proofs.builder.Builder.share_all.Goals as goal
 
 pub share-requires-clause-few : goal.share-requires-clause-few

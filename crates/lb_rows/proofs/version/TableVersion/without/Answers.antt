@@ -1,4 +1,4 @@
-use Rattle.std.proofs.Common.{◌≡◌, ◌∙◌, sym, ap, subst, length, List, ◌++◌, ◌+◌, ◌<◌, ◌^◌, IfOk}
+use Rattle.std.proofs.Common.{◌≡◌, ◌∙◌, sym, ap, subst, length, List, ◌+◌, ◌<◌, ◌^◌, IfOk}
 use Rattle.std.specs.Arc.{arc_value}
 use Rattle.lb_base.specs.declared.value.Value.{Value}
 use Rattle.lb_rows.specs.Tables.{Version}
