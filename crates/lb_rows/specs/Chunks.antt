@@ -1,19 +1,25 @@
 -- Rows in chunks.
-use Rattle.std.specs.Prelude.{◌≤◌, List, length}
-use Rattle.std.specs.List.{AllByRecursion, flat_map}
+use Rattle.std.specs.Prelude.{◌≡◌, ℕ, ◌+◌, ◌≤◌, ◌<◌, List, [], ◌∷◌, drop, length, take}
+use Rattle.std.specs.List.{flat_map}
 use Rattle.std.specs.Arc.{arc_value}
-use Rattle.std.specs.declared.sync.Arc.{Arc}
-use Rattle.std.specs.declared.alloc.Global.{Global}
 use Rattle.lb_base.specs.declared.value.Value.{Value}
+use Rattle.lb_rows.specs.declared.chunk.Chunk.{Chunk}
 
--- some rows of a table, which versions share
-abbrev pub Chunk : Type 0
-Chunk = Arc (List (List Value)) Global
+-- the rows of a chunk
+abbrev pub rows_in : Chunk → List (List Value)
+rows_in chunk = arc_value chunk.rows
 
 -- the rows of the chunks, in order
 abbrev pub rows_in_chunks : List Chunk → List (List Value)
-rows_in_chunks chunks = flat_map arc_value chunks
+rows_in_chunks chunks = flat_map rows_in chunks
 
--- no chunk has more than 256 rows
-abbrev pub AreShort : List Chunk → Type 0
-AreShort chunks = AllByRecursion (λ (c : Chunk). length (arc_value c) ≤ 256) chunks
+-- no chunk has more than 256 rows, and each one knows the place of its first row, where the first chunk begins at the given place
+abbrev pub ArePlaced : ℕ → List Chunk → Type 0
+ArePlaced place [] = Unit {0}
+ArePlaced place (chunk ∷ chunks) = (chunk.first ≡ place) × (length (rows_in chunk) ≤ 256) × ArePlaced (place + length (rows_in chunk)) chunks
+
+-- a run: some of the rows from a place on, one after another, at most 256, and at least one where there is any
+pub record IsRun (rows : List (List Value)) (place : ℕ) (run : List (List Value)) : Type 0 where
+  pub begins : take (length run) (drop place rows) ≡ run
+  pub few : length run ≤ 256
+  pub some : place < length rows → 0 < length run

@@ -1,0 +1,18 @@
+use Rattle.std.proofs.Common.{◌∙◌, sym, ap, Option}
+use Rattle.std.specs.Prelude.{find, option_map}
+use Rattle.std.specs.Option.{option_copied}
+use Rattle.lb_rows.specs.declared.snap.StampedVersion.{StampedVersion}
+use Rattle.lb_rows.specs.Stamped.{stamp_or_zero, stamped_of}
+use Rattle.lb_rows.specs.Kept.{is_of, versions_in}
+use Rattle.lb_rows.proofs.There.{Places, stamp_found}
+use Rattle.lb_rows.proofs.snap.Snap.stamp.Goals as goal
+
+pub returns-in-Some : goal.returns-in-Some
+returns-in-Some c =
+    let kept = sym (ap option_copied c.in-Some.is) ∙ c.found.ensures ∙ ap (λ (ps : Places). find (is_of c.args.table.now) (versions_in ps)) c.as_slice.ensures.value in
+    ap (λ (o : Option StampedVersion). stamp_or_zero (option_map stamped_of o)) kept ∙ sym (stamp_found c.args.table.now (versions_in c.self.inside.versions.items) c.args.self.now c.self.view_is)
+
+pub returns-in-None : goal.returns-in-None
+returns-in-None c =
+    let kept = sym (ap option_copied c.in-None.is) ∙ c.found.ensures ∙ ap (λ (ps : Places). find (is_of c.args.table.now) (versions_in ps)) c.as_slice.ensures.value in
+    ap (λ (o : Option StampedVersion). stamp_or_zero (option_map stamped_of o)) kept ∙ sym (stamp_found c.args.table.now (versions_in c.self.inside.versions.items) c.args.self.now c.self.view_is)
