@@ -5,7 +5,7 @@ use Rattle.lb_base.specs.declared.value.Value.{Value}
 use Rattle.lb_rows.specs.declared.chunk.Chunk.{Chunk}
 use Rattle.lb_rows.specs.declared.edit.ChangedRow.{ChangedRow}
 use Rattle.lb_rows.specs.Chunks.{rows_in, rows_in_chunks, ArePlaced}
-use Rattle.lb_rows.specs.Edits.{changed_from, changed_row, left_from, is_among}
+use Rattle.lb_rows.specs.Edits.{rows_changed_from, changed_row, rows_remaining_from, is_one_of}
 use Rattle.lb_rows.proofs.Placed.{rows_push}
 
 -- an edit of rows, the first of which has the given place, goes piece by piece, and adds no row
@@ -20,42 +20,42 @@ kept_from at rows = rows
 pub kept_is_edit : IsEdit kept_from
 kept_is_edit = record { none = λ at. refl; pieces = λ at xs ys. refl; short = λ at xs. omega arith }
 
-changed_pieces : (changes : List ChangedRow) (at : ℕ) (xs ys : List (List Value)) → changed_from changes at (xs ++ ys) ≡ changed_from changes at xs ++ changed_from changes (at + length xs) ys
-changed_pieces changes at [] ys = let same : at ≡ at + 0 = omega arith in ap (λ (n : ℕ). changed_from changes n ys) same
+changed_pieces : (changes : List ChangedRow) (at : ℕ) (xs ys : List (List Value)) → rows_changed_from changes at (xs ++ ys) ≡ rows_changed_from changes at xs ++ rows_changed_from changes (at + length xs) ys
+changed_pieces changes at [] ys = let same : at ≡ at + 0 = omega arith in ap (λ (n : ℕ). rows_changed_from changes n ys) same
 changed_pieces changes at (x ∷ xs) ys =
     let same : suc at + length xs ≡ at + suc (length xs) = omega arith in
     ap (λ (rows : List (List Value)). changed_row changes at x ∷ rows)
-    (changed_pieces changes (suc at) xs ys ∙ ap (λ (n : ℕ). changed_from changes (suc at) xs ++ changed_from changes n ys) same)
+    (changed_pieces changes (suc at) xs ys ∙ ap (λ (n : ℕ). rows_changed_from changes (suc at) xs ++ rows_changed_from changes n ys) same)
 
-changed_short : (changes : List ChangedRow) (at : ℕ) (xs : List (List Value)) → length (changed_from changes at xs) ≤ length xs
+changed_short : (changes : List ChangedRow) (at : ℕ) (xs : List (List Value)) → length (rows_changed_from changes at xs) ≤ length xs
 changed_short changes at [] = omega arith
-changed_short changes at (x ∷ xs) = let rest : length (changed_from changes (suc at) xs) ≤ length xs = changed_short changes (suc at) xs in omega arith
+changed_short changes at (x ∷ xs) = let rest : length (rows_changed_from changes (suc at) xs) ≤ length xs = changed_short changes (suc at) xs in omega arith
 
-pub changed_is_edit : (changes : List ChangedRow) → IsEdit (changed_from changes)
+pub changed_is_edit : (changes : List ChangedRow) → IsEdit (rows_changed_from changes)
 changed_is_edit changes = record { none = λ at. refl; pieces = changed_pieces changes; short = changed_short changes }
 
-left_pieces : (places : List ℕ) (at : ℕ) (xs ys : List (List Value)) → left_from places at (xs ++ ys) ≡ left_from places at xs ++ left_from places (at + length xs) ys
-left_pieces places at [] ys = let same : at ≡ at + 0 = omega arith in ap (λ (n : ℕ). left_from places n ys) same
+left_pieces : (places : List ℕ) (at : ℕ) (xs ys : List (List Value)) → rows_remaining_from places at (xs ++ ys) ≡ rows_remaining_from places at xs ++ rows_remaining_from places (at + length xs) ys
+left_pieces places at [] ys = let same : at ≡ at + 0 = omega arith in ap (λ (n : ℕ). rows_remaining_from places n ys) same
 left_pieces places at (x ∷ xs) ys =
     let same : suc at + length xs ≡ at + suc (length xs) = omega arith in
-    let rest : left_from places (suc at) (xs ++ ys) ≡ left_from places (suc at) xs ++ left_from places (at + suc (length xs)) ys =
-    left_pieces places (suc at) xs ys ∙ ap (λ (n : ℕ). left_from places (suc at) xs ++ left_from places n ys) same in
-    elim (is_among places at) as (λ b. cond b (left_from places (suc at) (xs ++ ys)) (x ∷ left_from places (suc at) (xs ++ ys))
-    ≡ cond b (left_from places (suc at) xs) (x ∷ left_from places (suc at) xs) ++ left_from places (at + suc (length xs)) ys) [
+    let rest : rows_remaining_from places (suc at) (xs ++ ys) ≡ rows_remaining_from places (suc at) xs ++ rows_remaining_from places (at + suc (length xs)) ys =
+    left_pieces places (suc at) xs ys ∙ ap (λ (n : ℕ). rows_remaining_from places (suc at) xs ++ rows_remaining_from places n ys) same in
+    elim (is_one_of places at) as (λ b. cond b (rows_remaining_from places (suc at) (xs ++ ys)) (x ∷ rows_remaining_from places (suc at) (xs ++ ys))
+    ≡ cond b (rows_remaining_from places (suc at) xs) (x ∷ rows_remaining_from places (suc at) xs) ++ rows_remaining_from places (at + suc (length xs)) ys) [
       | true ↦ rest
       | false ↦ ap (λ (rows : List (List Value)). x ∷ rows) rest
     ]
 
-left_short : (places : List ℕ) (at : ℕ) (xs : List (List Value)) → length (left_from places at xs) ≤ length xs
+left_short : (places : List ℕ) (at : ℕ) (xs : List (List Value)) → length (rows_remaining_from places at xs) ≤ length xs
 left_short places at [] = omega arith
 left_short places at (x ∷ xs) =
-    let rest : length (left_from places (suc at) xs) ≤ length xs = left_short places (suc at) xs in
-    elim (is_among places at) as (λ b. length (cond b (left_from places (suc at) xs) (x ∷ left_from places (suc at) xs)) ≤ suc (length xs)) [
+    let rest : length (rows_remaining_from places (suc at) xs) ≤ length xs = left_short places (suc at) xs in
+    elim (is_one_of places at) as (λ b. length (cond b (rows_remaining_from places (suc at) xs) (x ∷ rows_remaining_from places (suc at) xs)) ≤ suc (length xs)) [
       | true ↦ omega arith
       | false ↦ omega arith
     ]
 
-pub left_is_edit : (places : List ℕ) → IsEdit (left_from places)
+pub left_is_edit : (places : List ℕ) → IsEdit (rows_remaining_from places)
 left_is_edit places = record { none = λ at. refl; pieces = left_pieces places; short = left_short places }
 
 -- where a chunk stands among all rows

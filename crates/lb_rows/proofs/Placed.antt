@@ -151,7 +151,7 @@ drop_within zero xs ys h = refl
 drop_within (suc k) [] ys h = absurd (omega arith)
 drop_within (suc k) (x ∷ xs) ys h = drop_within k xs ys (omega arith)
 
--- a run in rows that have more behind them
+-- a run in rows that have more after them
 pub run_in_front : (front last run : List (List Value)) (place : ℕ) → place < length front → IsRun front place run → IsRun (front ++ last) place run
 run_in_front front last run place inside is = record {
   begins = ap (take (length run)) (drop_within place front last (omega arith)) ∙ take_within run (drop place front) last is.begins;

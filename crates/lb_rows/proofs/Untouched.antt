@@ -6,7 +6,7 @@ use Rattle.std.specs.Option.{is_some, option_copied}
 use Rattle.std.proofs.lemmas.Bool.{eqb-true, le-leb, lt-ltb}
 use Rattle.lb_base.specs.declared.value.Value.{Value}
 use Rattle.lb_rows.specs.declared.edit.ChangedRow.{ChangedRow}
-use Rattle.lb_rows.specs.Edits.{changed_from, changed_row, is_among, is_change_at, is_change_within, is_within, left_from, new_or}
+use Rattle.lb_rows.specs.Edits.{rows_changed_from, changed_row, is_one_of, is_change_at, is_change_within, is_within, rows_remaining_from, new_or}
 
 is_inside : (first end place n : ℕ) → first ≤ place → place < end → eqb n place ≡ true → is_within first end n ≡ true
 is_inside first end place n low high is =
@@ -26,21 +26,21 @@ unchanged_at (c ∷ changes) first end place none low high =
     rest true e = cc
     rest false e = e
 
-unchanged_below : (changes : List ChangedRow) (first end at : ℕ) (rows : List (List Value)) → find (is_change_within first end) changes ≡ None → first ≤ at → at + length rows ≤ end → changed_from changes at rows ≡ rows
+unchanged_below : (changes : List ChangedRow) (first end at : ℕ) (rows : List (List Value)) → find (is_change_within first end) changes ≡ None → first ≤ at → at + length rows ≤ end → rows_changed_from changes at rows ≡ rows
 unchanged_below changes first end at [] none low high = refl
 unchanged_below changes first end at (row ∷ rows) none low high =
     let here : changed_row changes at row ≡ row = ap (new_or row) (unchanged_at changes first end at none low (omega arith)) in
-    let rest : changed_from changes (suc at) rows ≡ rows = unchanged_below changes first end (suc at) rows none (omega arith) (omega arith) in
+    let rest : rows_changed_from changes (suc at) rows ≡ rows = unchanged_below changes first end (suc at) rows none (omega arith) (omega arith) in
     rw (here, rest) refl
 
-pub unchanged : (changes : List ChangedRow) (first end len : ℕ) (rows : List (List Value)) → None ≡ find (is_change_within first end) changes → end ≡ first + len → len ≡ length rows → changed_from changes first rows ≡ rows
+pub unchanged : (changes : List ChangedRow) (first end len : ℕ) (rows : List (List Value)) → None ≡ find (is_change_within first end) changes → end ≡ first + len → len ≡ length rows → rows_changed_from changes first rows ≡ rows
 unchanged changes first end len rows none ends is = unchanged_below changes first end first rows (sym none) (omega arith) (omega arith)
 
 -- where no place is within, none within is among them
-left_at : (places : List ℕ) (first end place : ℕ) → list_any (is_within first end) places ≡ false → first ≤ place → place < end → is_among places place ≡ false
+left_at : (places : List ℕ) (first end place : ℕ) → list_any (is_within first end) places ≡ false → first ≤ place → place < end → is_one_of places place ≡ false
 left_at [] first end place none low high = refl
 left_at (p ∷ places) first end place none low high =
-    elim (eqb p place) as (λ b. eqb p place ≡ b → b || is_among places place ≡ false) [
+    elim (eqb p place) as (λ b. eqb p place ≡ b → b || is_one_of places place ≡ false) [
       | true ↦ λ e. let there : true || list_any (is_within first end) places ≡ false = rw (is_inside first end place p low high e) at none in cc
       | false ↦ λ e. left_at places first end place (rest (is_within first end p) none) low high
     ] refl
@@ -49,14 +49,14 @@ left_at (p ∷ places) first end place none low high =
     rest true e = cc
     rest false e = e
 
-left_below : (places : List ℕ) (first end at : ℕ) (rows : List (List Value)) → list_any (is_within first end) places ≡ false → first ≤ at → at + length rows ≤ end → left_from places at rows ≡ rows
+left_below : (places : List ℕ) (first end at : ℕ) (rows : List (List Value)) → list_any (is_within first end) places ≡ false → first ≤ at → at + length rows ≤ end → rows_remaining_from places at rows ≡ rows
 left_below places first end at [] none low high = refl
 left_below places first end at (row ∷ rows) none low high =
-    let here : is_among places at ≡ false = left_at places first end at none low (omega arith) in
-    let rest : left_from places (suc at) rows ≡ rows = left_below places first end (suc at) rows none (omega arith) (omega arith) in
+    let here : is_one_of places at ≡ false = left_at places first end at none low (omega arith) in
+    let rest : rows_remaining_from places (suc at) rows ≡ rows = left_below places first end (suc at) rows none (omega arith) (omega arith) in
     rw (here, rest) refl
 
-pub all_left : (places : List ℕ) (first end len : ℕ) (rows : List (List Value)) → list_any (is_within first end) places ≡ false → end ≡ first + len → len ≡ length rows → left_from places first rows ≡ rows
+pub all_left : (places : List ℕ) (first end len : ℕ) (rows : List (List Value)) → list_any (is_within first end) places ≡ false → end ≡ first + len → len ≡ length rows → rows_remaining_from places first rows ≡ rows
 all_left places first end len rows none ends is = left_below places first end first rows none (omega arith) (omega arith)
 
 pub none_there : {X : Type 0} (o : Option (Bor X)) → is_some o ≡ false → None ≡ option_copied o

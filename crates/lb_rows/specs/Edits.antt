@@ -27,26 +27,26 @@ abbrev pub changed_row : List ChangedRow → ℕ → List Value → List Value
 changed_row changes place row = new_or row (find (is_change_at place) changes)
 
 -- rows after the changes, where the first has the given place
-abbrev pub changed_from : List ChangedRow → ℕ → List (List Value) → List (List Value)
-changed_from changes place [] = []
-changed_from changes place (row ∷ rows) = changed_row changes place row ∷ changed_from changes (suc place) rows
+abbrev pub rows_changed_from : List ChangedRow → ℕ → List (List Value) → List (List Value)
+rows_changed_from changes place [] = []
+rows_changed_from changes place (row ∷ rows) = changed_row changes place row ∷ rows_changed_from changes (suc place) rows
 
 -- the rows of a table after the changes; places count from 0
-abbrev pub changed : List ChangedRow → List (List Value) → List (List Value)
-changed changes rows = changed_from changes 0 rows
+abbrev pub rows_changed : List ChangedRow → List (List Value) → List (List Value)
+rows_changed changes rows = rows_changed_from changes 0 rows
 
 -- the place is one of those
-abbrev pub is_among : List ℕ → ℕ → Bool
-is_among places place = list_any (λ p. p == place) places
+abbrev pub is_one_of : List ℕ → ℕ → Bool
+is_one_of places place = list_any (λ p. p == place) places
 
 -- rows without those at the places, where the first has the given place; the others keep their order
-abbrev pub left_from : List ℕ → ℕ → List (List Value) → List (List Value)
-left_from places place [] = []
-left_from places place (row ∷ rows) = if is_among places place then left_from places (suc place) rows else row ∷ left_from places (suc place) rows
+abbrev pub rows_remaining_from : List ℕ → ℕ → List (List Value) → List (List Value)
+rows_remaining_from places place [] = []
+rows_remaining_from places place (row ∷ rows) = if is_one_of places place then rows_remaining_from places (suc place) rows else row ∷ rows_remaining_from places (suc place) rows
 
 -- the rows of a table without those at the places, which count from 0
-abbrev pub left : List ℕ → List (List Value) → List (List Value)
-left places rows = left_from places 0 rows
+abbrev pub rows_remaining : List ℕ → List (List Value) → List (List Value)
+rows_remaining places rows = rows_remaining_from places 0 rows
 
 -- the number is from `first` on and below `end`
 abbrev pub is_within : ℕ → ℕ → ℕ → Bool

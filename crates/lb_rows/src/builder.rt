@@ -2,7 +2,7 @@
 ghost use Rattle.std.specs.Prelude.{◌≡◌, ◌≤◌, ◌<◌, ◌+◌, ◌++◌, ◌∷◌, ◌^◌, [], length, IfOk, OnOk};
 ghost use Rattle.std.specs.Arc.{arc_value};
 ghost use Rattle.lb_rows.specs.Chunks.{ArePlaced, rows_in, rows_in_chunks};
-ghost use Rattle.lb_rows.specs.Edits.{AreInOrder, changed_from, left_from, place_of};
+ghost use Rattle.lb_rows.specs.Edits.{AreInOrder, rows_changed_from, rows_remaining_from, place_of};
 
 use crate::chunk::{CHUNK_LIMIT, Chunk, Chunks};
 use crate::edit::{ChangedRow, change_within, has_place_within, is_at, row_after};
@@ -12,7 +12,7 @@ use std::marker::Model;
 use std::mem;
 use std::sync::Arc;
 
-/// Full chunks and shared ones, and the rows behind them that are no chunk yet. Contracts see the list of all rows.
+/// Full chunks and shared ones, and the rows after them that are no chunk yet. Contracts see the list of all rows.
 /// Where a call is refused memory, the builder is of no more use.
 #[derive(Drop)]
 pub(crate) struct Builder {
@@ -99,7 +99,7 @@ impl Builder {
         requires order { AreInOrder place_of changes.now }
         requires inside { first + length rows.now < 2 ^ 32 }
         requires fits { length self.old + length rows.now < 2 ^ 32 }
-        ensures { OnOk result (self.new ≡ self.old ++ changed_from changes.now first rows.now) }
+        ensures { OnOk result (self.new ≡ self.old ++ rows_changed_from changes.now first rows.now) }
     {
         let mut place = first;
         for row in rows {
@@ -121,7 +121,7 @@ impl Builder {
         requires few { length (arc_value rows.now) ≤ CHUNK_LIMIT }
         requires inside { first + length (arc_value rows.now) < 2 ^ 32 }
         requires fits { length self.old + length (arc_value rows.now) < 2 ^ 32 }
-        ensures { OnOk result (self.new ≡ self.old ++ changed_from changes.now first (arc_value rows.now)) }
+        ensures { OnOk result (self.new ≡ self.old ++ rows_changed_from changes.now first (arc_value rows.now)) }
     {
         let end = first + rows.len() as u32;
         match change_within(changes, first, end) {
@@ -141,7 +141,7 @@ impl Builder {
         requires placed { ArePlaced 0 chunks.now }
         requires inside { length (rows_in_chunks chunks.now) < 2 ^ 32 }
         requires fits { length self.old + length (rows_in_chunks chunks.now) < 2 ^ 32 }
-        ensures { OnOk result (self.new ≡ self.old ++ changed_from changes.now 0 (rows_in_chunks chunks.now)) }
+        ensures { OnOk result (self.new ≡ self.old ++ rows_changed_from changes.now 0 (rows_in_chunks chunks.now)) }
     {
         for chunk in chunks {
             self.change(alloc, chunk.first, &chunk.rows, changes)?;
@@ -160,7 +160,7 @@ impl Builder {
         requires order { AreInOrder (λ place. place) places.now }
         requires inside { first + length rows.now < 2 ^ 32 }
         requires fits { length self.old + length rows.now < 2 ^ 32 }
-        ensures { OnOk result (self.new ≡ self.old ++ left_from places.now first rows.now) }
+        ensures { OnOk result (self.new ≡ self.old ++ rows_remaining_from places.now first rows.now) }
     {
         let mut place = first;
         for row in rows {
@@ -181,7 +181,7 @@ impl Builder {
         requires order { AreInOrder (λ place. place) places.now }
         requires inside { place + 1 < 2 ^ 32 }
         requires fits { length self.old + 1 < 2 ^ 32 }
-        ensures { OnOk result (self.new ≡ self.old ++ left_from places.now place (row.now ∷ [])) }
+        ensures { OnOk result (self.new ≡ self.old ++ rows_remaining_from places.now place (row.now ∷ [])) }
     {
         if is_at(places, place) {
             Ok(())
@@ -202,7 +202,7 @@ impl Builder {
         requires few { length (arc_value rows.now) ≤ CHUNK_LIMIT }
         requires inside { first + length (arc_value rows.now) < 2 ^ 32 }
         requires fits { length self.old + length (arc_value rows.now) < 2 ^ 32 }
-        ensures { OnOk result (self.new ≡ self.old ++ left_from places.now first (arc_value rows.now)) }
+        ensures { OnOk result (self.new ≡ self.old ++ rows_remaining_from places.now first (arc_value rows.now)) }
     {
         let end = first + rows.len() as u32;
         if has_place_within(places, first, end) {
@@ -223,7 +223,7 @@ impl Builder {
         requires placed { ArePlaced 0 chunks.now }
         requires inside { length (rows_in_chunks chunks.now) < 2 ^ 32 }
         requires fits { length self.old + length (rows_in_chunks chunks.now) < 2 ^ 32 }
-        ensures { OnOk result (self.new ≡ self.old ++ left_from places.now 0 (rows_in_chunks chunks.now)) }
+        ensures { OnOk result (self.new ≡ self.old ++ rows_remaining_from places.now 0 (rows_in_chunks chunks.now)) }
     {
         for chunk in chunks {
             self.leave_out(alloc, chunk.first, &chunk.rows, places)?;
@@ -231,7 +231,7 @@ impl Builder {
         Ok(())
     }
 
-    /// The chunks, and the rows behind them, in parts.
+    /// The chunks, and the rows after them, in parts.
     pub(crate) fn parts(self) -> (Chunks, RowList)
         ensures rows { result.0 ++ result.1 ≡ self }
         ensures few { length result.1 ≤ CHUNK_LIMIT }

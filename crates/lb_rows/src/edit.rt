@@ -2,7 +2,7 @@
 ghost use Rattle.std.specs.Prelude.{◌≡◌, ◌+◌, ◌<◌, ◌^◌, find, IfOk};
 ghost use Rattle.std.specs.Option.{option_copied};
 ghost use Rattle.std.specs.List.{list_any};
-ghost use Rattle.lb_rows.specs.Edits.{AreInOrder, changed_row, is_among, is_change_within, is_within, place_of};
+ghost use Rattle.lb_rows.specs.Edits.{AreInOrder, changed_row, is_one_of, is_change_within, is_within, place_of};
 
 use crate::item::item_at;
 use lb_base::{NoMemory, Row};
@@ -66,7 +66,7 @@ pub(crate) fn row_after(
 pub(crate) fn is_at(places: &[u32], place: u32) -> bool
     requires order { AreInOrder (λ place. place) places.now }
     requires inside { place + 1 < 2 ^ 32 }
-    ensures { result ≡ is_among places.now place }
+    ensures { result ≡ is_one_of places.now place }
 {
     has_place_within(places, place, place + 1)
 }

@@ -194,7 +194,7 @@ fn take_out(versions: &mut ArrayVec<Option<StampedVersion>, { TABLE_LIMIT }>, ta
     versions.retain(|version| !is_of_table(version, table));
 }
 
-/// Puts all of these versions behind the others; they are shared.
+/// Puts all of these versions after the others; they are shared.
 fn share_all(
     versions: &[Option<StampedVersion>],
     shared: &mut ArrayVec<Option<StampedVersion>, { TABLE_LIMIT }>,

@@ -3,7 +3,7 @@ ghost use Rattle.std.specs.Prelude.{◌≡◌, ◌≤◌, ◌<◌, ◌+◌, ◌+
 ghost use Rattle.std.specs.Option.{option_copied};
 ghost use Rattle.std.specs.Arc.{arc_value};
 ghost use Rattle.lb_rows.specs.Chunks.{IsRun};
-ghost use Rattle.lb_rows.specs.Edits.{AreInOrder, changed, changed_from, left, left_from, place_of};
+ghost use Rattle.lb_rows.specs.Edits.{AreInOrder, rows_changed, rows_changed_from, rows_remaining, rows_remaining_from, place_of};
 
 use crate::builder::Builder;
 use crate::chunk::{CHUNK_LIMIT, Chunks, rest_of, run_from};
@@ -64,7 +64,7 @@ impl TableVersion {
     }
 
     /// Rows from a place on, as far as they stand in one chunk: at most 256, and none exactly past the last row. A scan that
-    /// goes on behind each run looks for each chunk once.
+    /// goes on after each run looks for each chunk once.
     pub fn rows_from(&self, place: u32) -> &[Row]
         ensures { IsRun self.now.rows place result.now }
     {
@@ -86,7 +86,7 @@ impl TableVersion {
         finish(alloc, &self.name, builder)
     }
 
-    /// The table with these rows behind its own (INSERT statement). All chunks are shared but the last one, whose rows are
+    /// The table with these rows after its own (INSERT statement). All chunks are shared but the last one, whose rows are
     /// copied where it has room for more.
     pub fn with_appended(&self, alloc: Global, rows: RowList) -> Result<Arc<TableVersion>, NoMemory>
         requires fits { length self.now.rows + length rows < 2 ^ 32 }
@@ -130,7 +130,7 @@ impl TableVersion {
         changes: &[ChangedRow],
     ) -> Result<Arc<TableVersion>, NoMemory>
         requires { AreInOrder place_of changes.now }
-        ensures { IfOk result (λ v. arc_value v ≡ record { name = self.now.name; rows = changed changes.now self.now.rows }) }
+        ensures { IfOk result (λ v. arc_value v ≡ record { name = self.now.name; rows = rows_changed changes.now self.now.rows }) }
     {
         let mut builder = Builder::empty(alloc);
         builder.change_all(alloc, self.front.as_slice(), changes)?;
@@ -147,7 +147,7 @@ impl TableVersion {
     /// The table without the rows at some places, which come in order (DELETE statement). Chunks that lose no row are shared.
     pub fn without(&self, alloc: Global, places: &[u32]) -> Result<Arc<TableVersion>, NoMemory>
         requires { AreInOrder (λ place. place) places.now }
-        ensures { IfOk result (λ v. arc_value v ≡ record { name = self.now.name; rows = left places.now self.now.rows }) }
+        ensures { IfOk result (λ v. arc_value v ≡ record { name = self.now.name; rows = rows_remaining places.now self.now.rows }) }
     {
         let mut builder = Builder::empty(alloc);
         builder.leave_out_all(alloc, self.front.as_slice(), places)?;
@@ -205,7 +205,7 @@ fn finish_changed(
     requires few { length (arc_value last.now) ≤ CHUNK_LIMIT }
     requires inside { first + length (arc_value last.now) < 2 ^ 32 }
     requires fits { length builder + length (arc_value last.now) < 2 ^ 32 }
-    ensures { IfOk result (λ v. arc_value v ≡ record { name = name.now; rows = builder ++ changed_from changes.now first (arc_value last.now) }) }
+    ensures { IfOk result (λ v. arc_value v ≡ record { name = name.now; rows = builder ++ rows_changed_from changes.now first (arc_value last.now) }) }
 {
     let end = first + last.len() as u32;
     if change_within(changes, first, end).is_none() {
@@ -229,7 +229,7 @@ fn finish_left(
     requires few { length (arc_value last.now) ≤ CHUNK_LIMIT }
     requires inside { first + length (arc_value last.now) < 2 ^ 32 }
     requires fits { length builder + length (arc_value last.now) < 2 ^ 32 }
-    ensures { IfOk result (λ v. arc_value v ≡ record { name = name.now; rows = builder ++ left_from places.now first (arc_value last.now) }) }
+    ensures { IfOk result (λ v. arc_value v ≡ record { name = name.now; rows = builder ++ rows_remaining_from places.now first (arc_value last.now) }) }
 {
     let end = first + last.len() as u32;
     if !has_place_within(places, first, end) {

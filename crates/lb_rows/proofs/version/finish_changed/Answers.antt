@@ -1,6 +1,6 @@
 use Rattle.std.proofs.Common.{◌∙◌, sym, ap, refl, length, not, ◌+◌}
 use Rattle.std.specs.Arc.{arc_value}
-use Rattle.lb_rows.specs.Edits.{changed_from}
+use Rattle.lb_rows.specs.Edits.{rows_changed_from}
 use Rattle.lb_rows.proofs.Edited.{changed_is_edit, room_for_all}
 use Rattle.lb_rows.proofs.Untouched.{none_there, unchanged}
 use Rattle.lb_rows.proofs.version.finish_changed.Goals as goal
@@ -12,7 +12,7 @@ returns-then-is_none c =
 
 pub finish-requires : goal.finish-requires
 finish-requires c =
-    room_for_all (changed_from c.args.changes.now) (changed_is_edit c.args.changes.now) c.args.builder c.extend_changed.new.self c.as_slice.result.now (arc_value c.args.last.now) c.args.first c.in_ok-extend_changed.ensures (c.as_slice.ensures ∙ c.deref-2.ensures) c.requires.fits
+    room_for_all (rows_changed_from c.args.changes.now) (changed_is_edit c.args.changes.now) c.args.builder c.extend_changed.new.self c.as_slice.result.now (arc_value c.args.last.now) c.args.first c.in_ok-extend_changed.ensures (c.as_slice.ensures ∙ c.deref-2.ensures) c.requires.fits
 
 pub returns : goal.returns
 returns c = rw (sym (c.as_slice.ensures ∙ c.deref-2.ensures), sym c.in_ok-extend_changed.ensures) c.finish.ensures
