@@ -1,1 +1,3 @@
 pub mod Bare
+pub mod ByName
+pub mod Marked
