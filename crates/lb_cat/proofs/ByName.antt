@@ -1,6 +1,8 @@
 -- A map from names to records, as the list of the records: insertion, look-up, removal, copies and writing by place.
-use Rattle.std.proofs.Common.{◌≡◌, refl, sym, ap, subst, ◌∙◌, ℕ, zero, suc, Bool, true, false, cond, not, List, [], ◌∷◌, map, Option, None, Some, Unit, pointwise, nat_eq, true≢false}
+use Rattle.std.proofs.Common.{◌≡◌, refl, sym, ap, subst, ◌∙◌, ℕ, zero, suc, Bool, true, false, cond, not, List, [], ◌∷◌, map, Option, None, Some, true≢false}
 use Rattle.std.specs.Prelude.{find, slice_get, slice_set, option_map, string_bytes}
+use Rattle.std.specs.Borrow.{Bor}
+use Rattle.std.specs.Option.{option_copied}
 use Rattle.std.specs.Str.{bytes_eq}
 use Rattle.std.specs.String.{string_eq}
 use Rattle.std.specs.List.{AllZip, AllByRecursion, IsDistinct}
@@ -44,11 +46,11 @@ module _ {R : Type 0} (name : R → List ℕ) where
 
     pub by_name_after_put : (es : List (String Global × Arc R Global)) → AreByName name es → AreByName name (insert_entry string_eq es k r)
     by_name_after_put [] keys = (own, _)
-    by_name_after_put (e ∷ es) keys = by (string_eq k e.0) refl
+    by_name_after_put (e ∷ es) keys = by (string_eq k e.0) refl (by_name_after_put es keys.1)
       where
-        by : (b : Bool) → string_eq k e.0 ≡ b → AreByName name (cond b ((e.0, r) ∷ es) (e ∷ insert_entry string_eq es k r))
-        by true h = (sym (same_name (string_bytes k) (string_bytes e.0) h) ∙ own, keys.1)
-        by false h = (keys.0, by_name_after_put es keys.1)
+        by : (b : Bool) → string_eq k e.0 ≡ b → AreByName name (insert_entry string_eq es k r) → AreByName name (cond b ((e.0, r) ∷ es) (e ∷ insert_entry string_eq es k r))
+        by true h rest = (sym (same_name (string_bytes k) (string_bytes e.0) h) ∙ own, keys.1)
+        by false h rest = (keys.0, rest)
 
   -- the map's look-up by a name finds the first record of that name
   pub find_entry : (n : List ℕ) (es : List (String Global × Arc R Global)) → AreByName name es → option_map arc_value (lookup (λ k. bytes_eq n (string_bytes k)) es) ≡ find (is_named n) (records_in es)
@@ -71,15 +73,16 @@ module _ {R : Type 0} (name : R → List ℕ) where
 
   -- the map's removal of a name leaves the records of other names, in their order
   pub remove_entry : (n : List ℕ) (es : List (String Global × Arc R Global)) → AreByName name es → IsDistinct string_eq (keys_of es) → records_in (shift_remove_entry (λ k. bytes_eq n (string_bytes k)) es) ≡ without (is_named n) (records_in es)
+  unfolding IsDistinct
   remove_entry n [] keys apart = refl
-  remove_entry n (e ∷ es) keys apart = by (bytes_eq n (string_bytes e.0)) refl
+  remove_entry n (e ∷ es) keys apart = by (bytes_eq n (string_bytes e.0)) refl (remove_entry n es keys.1 apart.1)
     where
-      by : (b : Bool) → bytes_eq n (string_bytes e.0) ≡ b → records_in (cond b es (e ∷ shift_remove_entry (λ k. bytes_eq n (string_bytes k)) es)) ≡ without (is_named n) (record_in e ∷ records_in es)
-      by true h =
+      by : (b : Bool) → bytes_eq n (string_bytes e.0) ≡ b → records_in (shift_remove_entry (λ k. bytes_eq n (string_bytes k)) es) ≡ without (is_named n) (records_in es) → records_in (cond b es (e ∷ shift_remove_entry (λ k. bytes_eq n (string_bytes k)) es)) ≡ without (is_named n) (record_in e ∷ records_in es)
+      by true h rest =
           none_left_out n e.0 h es keys.1 apart.0
             ∙ ap (λ b. cond (not b) (record_in e ∷ without (is_named n) (records_in es)) (without (is_named n) (records_in es))) (sym (turned (name (record_in e)) n ∙ ap (bytes_eq n) (sym keys.0) ∙ h))
-      by false h =
-          ap (λ (rest : List R). record_in e ∷ rest) (remove_entry n es keys.1 apart.1)
+      by false h rest =
+          ap (λ (others : List R). record_in e ∷ others) rest
             ∙ ap (λ b. cond (not b) (record_in e ∷ without (is_named n) (records_in es)) (without (is_named n) (records_in es))) (sym (turned (name (record_in e)) n ∙ ap (bytes_eq n) (sym keys.0) ∙ h))
 
   pub by_name_after_removal : (n : List ℕ) (es : List (String Global × Arc R Global)) → AreByName name es → AreByName name (shift_remove_entry (λ k. bytes_eq n (string_bytes k)) es)
@@ -113,3 +116,8 @@ module _ {R : Type 0} (name : R → List ℕ) where
   by_name_after_set [] i w keys same = keys
   by_name_after_set (e ∷ es) zero w keys same = (keys.0 ∙ sym (same (record_in e) refl), keys.1)
   by_name_after_set (e ∷ es) (suc i) w keys same = (keys.0, by_name_after_set es i w keys.1 same)
+
+-- what a look-up lends, by its value
+pub lent_value : {R : Type 0} (r : Option (Bor (Arc R Global))) → option_map (λ x. arc_value x.now) r ≡ option_map arc_value (option_copied r)
+lent_value None = refl
+lent_value (Some x) = refl

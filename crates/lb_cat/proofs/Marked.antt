@@ -40,16 +40,16 @@ module _ {R : Type 0} (is : R → Bool) (f : R → R) (stamp : R → ℕ) (among
         | false ↦ refl
       ]
   found_after (r ∷ rs) =
-      ap (λ b. stamp_or stamp (cond b (Some (f r)) (find is (map f rs)))) (same r) ∙ by (is r) refl
+      ap (λ b. stamp_or stamp (cond b (Some (f r)) (find is (map f rs)))) (same r) ∙ by (is r) refl (found_after rs)
     where
-      by : (b : Bool) → is r ≡ b → stamp_or stamp (cond b (Some (f r)) (find is (map f rs))) ≡ (if among && is_some (cond b (Some r) (find is rs)) then s else stamp_or stamp (cond b (Some r) (find is rs)))
-      by true h =
+      by : (b : Bool) → is r ≡ b → stamp_or stamp (find is (map f rs)) ≡ (if among && is_some (find is rs) then s else stamp_or stamp (find is rs)) → stamp_or stamp (cond b (Some (f r)) (find is (map f rs))) ≡ (if among && is_some (cond b (Some r) (find is rs)) then s else stamp_or stamp (cond b (Some r) (find is rs)))
+      by true h rest =
           stamps r h
             ∙ (elim among as (λ b. (if b then s else stamp r) ≡ (if b && true then s else stamp r)) [
                 | true ↦ refl
                 | false ↦ refl
               ])
-      by false h = found_after rs
+      by false h rest = rest
 
 module _ {R : Type 0} (make : List ℕ → Key) (name : R → List ℕ) (stamp : R → ℕ) (stamped : R → R) (s : ℕ) (keeps : (r : R) → name (stamped r) ≡ name r) (has : (r : R) → stamp (stamped r) ≡ s) (ks : List Key) (n : List ℕ) where
   -- a look-up by name after the records under the keys were stamped
@@ -123,18 +123,18 @@ pub marked_list : {R : Type 0} (key : R → Key) (stamped : R → R) (ks : List 
 marked_list key stamped ks [] [] h = refl
 marked_list key stamped ks [] (y ∷ ys) h = absurd h
 marked_list key stamped ks (x ∷ xs) [] h = absurd h
-marked_list key stamped ks (x ∷ xs) (y ∷ ys) h = λ i. by (has_key (key x) ks) h.0 i ∷ marked_list key stamped ks xs ys h.1 i
+marked_list key stamped ks (x ∷ xs) (y ∷ ys) h = λ i. by (has_key (key x) ks) h.0.0 h.0.1 i ∷ marked_list key stamped ks xs ys h.1 i
   where
-    by : (b : Bool) → (if b then (y ≡ stamped x) else (y ≡ x)) → y ≡ (if b then stamped x else x)
-    by true same = same
-    by false same = same
+    by : (b : Bool) → (b ≡ true → y ≡ stamped x) → (b ≡ false → y ≡ x) → y ≡ (if b then stamped x else x)
+    by true stamps stays = stamps refl
+    by false stamps stays = stays refl
 
 pub marked_components : (s : ℕ) (ks : List Key) (xs ys : List ComponentRec) → AllZip (IsMarked (λ c. keys.Component c.name) (λ old new. IsAlikeComponent new (stamped_component s old)) ks) xs ys → AllZip IsAlikeComponent ys (map (mark_one (λ c. keys.Component c.name) (stamped_component s) ks) xs)
 marked_components s ks [] [] h = h
 marked_components s ks [] (y ∷ ys) h = absurd h
 marked_components s ks (x ∷ xs) [] h = absurd h
-marked_components s ks (x ∷ xs) (y ∷ ys) h = (by (has_key (keys.Component x.name) ks) h.0, marked_components s ks xs ys h.1)
+marked_components s ks (x ∷ xs) (y ∷ ys) h = (by (has_key (keys.Component x.name) ks) h.0.0 h.0.1, marked_components s ks xs ys h.1)
   where
-    by : (b : Bool) → (if b then IsAlikeComponent y (stamped_component s x) else (y ≡ x)) → IsAlikeComponent y (if b then stamped_component s x else x)
-    by true same = same
-    by false same = (ap bare_component same, ap (λ c. c.stamp) same)
+    by : (b : Bool) → (b ≡ true → IsAlikeComponent y (stamped_component s x)) → (b ≡ false → y ≡ x) → IsAlikeComponent y (if b then stamped_component s x else x)
+    by true stamps stays = stamps refl
+    by false stamps stays = (ap bare_component (stays refl), ap (λ c. c.stamp) (stays refl))

@@ -7,6 +7,7 @@ ghost use Rattle.std.specs.Str.{bytes_eq};
 ghost use Rattle.lb_rows.specs.Lists.{put, without};
 ghost use Rattle.lb_cat.specs.Keys.{has_key};
 ghost use Rattle.lb_cat.specs.Records.{IsMarked};
+ghost use Rattle.lb_cat.specs.Stamps.{stamp_or};
 
 use crate::keys::Keys;
 use crate::named::{Named, Stamped};
@@ -58,6 +59,8 @@ impl<R: Named> Records<R> {
     pub fn remove(&mut self, name: &Name)
         ensures { self.new ≡ without (λ x. bytes_eq (R.name x) name.now) self.old }
     {
+        // `len` is called for its clause that the keys differ, which the proof cites.
+        let _count = self.records.len();
         self.records.shift_remove(name.as_str());
     }
 
@@ -102,9 +105,19 @@ impl<R: Named> Records<R> {
 }
 
 impl<R: Stamped> Records<R> {
+    /// The stamp of the record of this name, and 0 where there is none.
+    pub fn stamp(&self, name: &Name) -> u64
+        ensures { result ≡ stamp_or R.own_stamp (find (λ x. bytes_eq (R.name x) name.now) self.now) }
+    {
+        match self.named(name) {
+            Some(record) => record.stamp(),
+            None => 0,
+        }
+    }
+
     /// The records, of which those whose keys are among these have this stamp.
     pub fn marked(&self, keys: &Keys, stamp: u64) -> Result<Records<R>, NoMemory>
-        ensures { IfOk result (AllZip (IsMarked R.key (R.stamped stamp) keys.now) self.now) }
+        ensures { IfOk result (AllZip (IsMarked R.own_key (R.stamped stamp) keys.now) self.now) }
     {
         let alloc = *self.records.allocator();
         let mut marked = self.copy()?;
@@ -121,7 +134,7 @@ impl<R: Stamped> Records<R> {
 
 /// Whether the record's key is among these.
 fn is_among<R: Stamped>(rec: &R, keys: &[Key]) -> bool
-    ensures { result ≡ has_key (R.key rec.now) keys.now }
+    ensures { result ≡ has_key (R.own_key rec.now) keys.now }
 {
     for key in keys {
         if rec.has_key(key) {
