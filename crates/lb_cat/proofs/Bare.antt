@@ -13,11 +13,12 @@ mapped_twice g f (Some x) = refl
 
 -- it finds something where one passes the test
 pub found_any : {A B : Type 0} (f : A → B) (is : B → Bool) (r : Option A) (xs : List B) → option_map f r ≡ find is xs → is_some r ≡ list_any is xs
-found_any f is r xs h = seen r ∙ ap is_some h ∙ passes xs
+found_any {A = A} {B = B} f is r xs h = seen r ∙ ap is_some h ∙ passes xs
   where
     seen : (o : Option A) → is_some o ≡ is_some (option_map f o)
     seen None = refl
     seen (Some x) = refl
+
     passes : (ys : List B) → is_some (find is ys) ≡ list_any is ys
     passes [] = refl
     passes (y ∷ ys) =

@@ -1,12 +1,12 @@
 -- A map from names to records, as the list of the records: insertion, look-up, removal, copies and writing by place.
-use Rattle.std.proofs.Common.{◌≡◌, refl, sym, ap, subst, ◌∙◌, ℕ, zero, suc, Bool, true, false, cond, not, List, [], ◌∷◌, map, Option, None, Some, true≢false}
+use Rattle.std.proofs.Common.{◌≡◌, refl, sym, ap, subst, ◌∙◌, ℕ, zero, suc, Bool, true, false, cond, not, List, [], ◌∷◌, map, Option, None, Some, is_some, true≢false}
 use Rattle.std.specs.Prelude.{find, slice_get, slice_set, option_map, string_bytes}
 use Rattle.std.specs.Borrow.{Bor}
 use Rattle.std.specs.Option.{option_copied}
 use Rattle.std.specs.Str.{bytes_eq}
 use Rattle.std.specs.String.{string_eq}
 use Rattle.std.specs.List.{AllZip, AllByRecursion, IsDistinct}
-use Rattle.std.specs.Map.{keys_of, lookup}
+use Rattle.std.specs.Map.{keys_of, values_of, lookup}
 use Rattle.std.specs.Arc.{arc_value}
 use Rattle.std.proofs.lemmas.Cmp.{nat_list_eq_equiv}
 use Rattle.std.proofs.lemmas.Slice.Eq.{bytes_eq-Decides}
@@ -57,11 +57,11 @@ module _ {R : Type 0} (name : R → List ℕ) where
   find_entry n [] keys = refl
   find_entry n (e ∷ es) keys =
       ap (λ m. option_map arc_value (cond (bytes_eq n m) (Some e.1) (lookup (λ k. bytes_eq n (string_bytes k)) es))) keys.0
-        ∙ ap (λ b. option_map arc_value (cond b (Some e.1) (lookup (λ k. bytes_eq n (string_bytes k)) es))) (turned n (name (record_in e)))
-        ∙ (elim (is_named n (record_in e)) as (λ b. option_map arc_value (cond b (Some e.1) (lookup (λ k. bytes_eq n (string_bytes k)) es)) ≡ cond b (Some (record_in e)) (find (is_named n) (records_in es))) [
-            | true ↦ refl
-            | false ↦ find_entry n es keys.1
-          ])
+      ∙ ap (λ b. option_map arc_value (cond b (Some e.1) (lookup (λ k. bytes_eq n (string_bytes k)) es))) (turned n (name (record_in e)))
+      ∙ (elim (is_named n (record_in e)) as (λ b. option_map arc_value (cond b (Some e.1) (lookup (λ k. bytes_eq n (string_bytes k)) es)) ≡ cond b (Some (record_in e)) (find (is_named n) (records_in es))) [
+        | true ↦ refl
+        | false ↦ find_entry n es keys.1
+      ])
 
   -- where no key of the entries is the name, none is left out
   none_left_out : (n : List ℕ) (k : String Global) → bytes_eq n (string_bytes k) ≡ true → (es : List (String Global × Arc R Global)) → AreByName name es → AllByRecursion (λ y. string_eq k y ≡ false) (keys_of es) → records_in es ≡ without (is_named n) (records_in es)
@@ -69,7 +69,7 @@ module _ {R : Type 0} (name : R → List ℕ) where
   none_left_out n k h (e ∷ es) keys apart =
       let other : is_named n (record_in e) ≡ false = turned (name (record_in e)) n ∙ ap (bytes_eq n) (sym keys.0) ∙ ap (λ m. bytes_eq m (string_bytes e.0)) (same_name n (string_bytes k) h) ∙ apart.0 in
       ap (λ (rest : List R). record_in e ∷ rest) (none_left_out n k h es keys.1 apart.1)
-        ∙ ap (λ b. cond (not b) (record_in e ∷ without (is_named n) (records_in es)) (without (is_named n) (records_in es))) (sym other)
+      ∙ ap (λ b. cond (not b) (record_in e ∷ without (is_named n) (records_in es)) (without (is_named n) (records_in es))) (sym other)
 
   -- the map's removal of a name leaves the records of other names, in their order
   pub remove_entry : (n : List ℕ) (es : List (String Global × Arc R Global)) → AreByName name es → IsDistinct string_eq (keys_of es) → records_in (shift_remove_entry (λ k. bytes_eq n (string_bytes k)) es) ≡ without (is_named n) (records_in es)
@@ -80,10 +80,10 @@ module _ {R : Type 0} (name : R → List ℕ) where
       by : (b : Bool) → bytes_eq n (string_bytes e.0) ≡ b → records_in (shift_remove_entry (λ k. bytes_eq n (string_bytes k)) es) ≡ without (is_named n) (records_in es) → records_in (cond b es (e ∷ shift_remove_entry (λ k. bytes_eq n (string_bytes k)) es)) ≡ without (is_named n) (record_in e ∷ records_in es)
       by true h rest =
           none_left_out n e.0 h es keys.1 apart.0
-            ∙ ap (λ b. cond (not b) (record_in e ∷ without (is_named n) (records_in es)) (without (is_named n) (records_in es))) (sym (turned (name (record_in e)) n ∙ ap (bytes_eq n) (sym keys.0) ∙ h))
+          ∙ ap (λ b. cond (not b) (record_in e ∷ without (is_named n) (records_in es)) (without (is_named n) (records_in es))) (sym (turned (name (record_in e)) n ∙ ap (bytes_eq n) (sym keys.0) ∙ h))
       by false h rest =
           ap (λ (others : List R). record_in e ∷ others) rest
-            ∙ ap (λ b. cond (not b) (record_in e ∷ without (is_named n) (records_in es)) (without (is_named n) (records_in es))) (sym (turned (name (record_in e)) n ∙ ap (bytes_eq n) (sym keys.0) ∙ h))
+          ∙ ap (λ b. cond (not b) (record_in e ∷ without (is_named n) (records_in es)) (without (is_named n) (records_in es))) (sym (turned (name (record_in e)) n ∙ ap (bytes_eq n) (sym keys.0) ∙ h))
 
   pub by_name_after_removal : (n : List ℕ) (es : List (String Global × Arc R Global)) → AreByName name es → AreByName name (shift_remove_entry (λ k. bytes_eq n (string_bytes k)) es)
   by_name_after_removal n [] keys = keys
@@ -121,3 +121,9 @@ module _ {R : Type 0} (name : R → List ℕ) where
 pub lent_value : {R : Type 0} (r : Option (Bor (Arc R Global))) → option_map (λ x. arc_value x.now) r ≡ option_map arc_value (option_copied r)
 lent_value None = refl
 lent_value (Some x) = refl
+
+-- the record in a place, by the map's value there
+pub record_at : {R : Type 0} (es : List (String Global × Arc R Global)) (i : ℕ) (w : Arc R Global) → slice_get (values_of es) i ≡ Some w → slice_get (records_in es) i ≡ Some (arc_value w)
+record_at [] i w h = absurd (true≢false (sym (ap is_some h)))
+record_at (e ∷ es) zero w h = ap (option_map arc_value) h
+record_at (e ∷ es) (suc i) w h = record_at es i w h

@@ -45,10 +45,10 @@ module _ {R : Type 0} (is : R → Bool) (f : R → R) (stamp : R → ℕ) (among
       by : (b : Bool) → is r ≡ b → stamp_or stamp (find is (map f rs)) ≡ (if among && is_some (find is rs) then s else stamp_or stamp (find is rs)) → stamp_or stamp (cond b (Some (f r)) (find is (map f rs))) ≡ (if among && is_some (cond b (Some r) (find is rs)) then s else stamp_or stamp (cond b (Some r) (find is rs)))
       by true h rest =
           stamps r h
-            ∙ (elim among as (λ b. (if b then s else stamp r) ≡ (if b && true then s else stamp r)) [
-                | true ↦ refl
-                | false ↦ refl
-              ])
+          ∙ (elim among as (λ b. (if b then s else stamp r) ≡ (if b && true then s else stamp r)) [
+            | true ↦ refl
+            | false ↦ refl
+          ])
       by false h rest = rest
 
 module _ {R : Type 0} (make : List ℕ → Key) (name : R → List ℕ) (stamp : R → ℕ) (stamped : R → R) (s : ℕ) (keeps : (r : R) → name (stamped r) ≡ name r) (has : (r : R) → stamp (stamped r) ≡ s) (ks : List Key) (n : List ℕ) where
@@ -56,9 +56,9 @@ module _ {R : Type 0} (make : List ℕ → Key) (name : R → List ℕ) (stamp :
   pub looked_up : (rs : List R) → stamp_or stamp (find (λ r. bytes_eq (name r) n) (map (mark_one (λ r. make (name r)) stamped ks) rs)) ≡ (if has_key (make n) ks && is_some (find (λ r. bytes_eq (name r) n) rs) then s else stamp_or stamp (find (λ r. bytes_eq (name r) n) rs))
   looked_up rs =
       found_after (λ r. bytes_eq (name r) n) (mark_one (λ r. make (name r)) stamped ks) stamp (has_key (make n) ks) s
-          (λ r. ap (λ m. bytes_eq m n) (one_stays (λ x. make (name x)) stamped name keeps ks r))
-          (λ r h. ap (λ m. stamp (if has_key (make m) ks then stamped r else r)) (same_name (name r) n h) ∙ by (has_key (make n) ks) r)
-          rs
+      (λ r. ap (λ m. bytes_eq m n) (one_stays (λ x. make (name x)) stamped name keeps ks r))
+      (λ r h. ap (λ m. stamp (if has_key (make m) ks then stamped r else r)) (same_name (name r) n h) ∙ by (has_key (make n) ks) r)
+      rs
     where
       by : (b : Bool) (r : R) → stamp (if b then stamped r else r) ≡ (if b then s else stamp r)
       by true r = has r
@@ -112,10 +112,10 @@ look_alike K L h (keys.Component n) = by K.components L.components h.components
     by (c ∷ cs) [] same = absurd same
     by (c ∷ cs) (d ∷ ds) same =
         ap (λ m. stamp_or (λ x. x.stamp) (cond (bytes_eq m n) (Some c) (find (λ x. bytes_eq x.name n) cs))) (ap (λ x. x.name) same.0.0)
-          ∙ (elim (bytes_eq d.name n) as (λ b. stamp_or (λ x. x.stamp) (cond b (Some c) (find (λ x. bytes_eq x.name n) cs)) ≡ stamp_or (λ x. x.stamp) (cond b (Some d) (find (λ x. bytes_eq x.name n) ds))) [
-              | true ↦ same.0.1
-              | false ↦ by cs ds same.1
-            ])
+        ∙ (elim (bytes_eq d.name n) as (λ b. stamp_or (λ x. x.stamp) (cond b (Some c) (find (λ x. bytes_eq x.name n) cs)) ≡ stamp_or (λ x. x.stamp) (cond b (Some d) (find (λ x. bytes_eq x.name n) ds))) [
+          | true ↦ same.0.1
+          | false ↦ by cs ds same.1
+        ])
 look_alike K L h (keys.User n) = ap (λ us. stamp_or (λ u. u.stamp) (find (λ u. bytes_eq u.name n) us)) h.users
 
 -- records that were stamped one by one, as a map of the list

@@ -39,18 +39,6 @@ module _ {R : Type 0} (Is : R → R → Type 0) where
   replaced_next (suc n) (z ∷ xs) [] x r h at is = absurd h
   replaced_next (suc n) (z ∷ xs) (y ∷ ys) x r h at is = (h.0, replaced_next n xs ys x r h.1 at is)
 
-  first_left : (xs : List R) (x : R) → slice_get xs 0 ≡ Some x → Is x x → ReplacedTo 1 xs xs
-  first_left [] x at is = _
-  first_left (z ∷ xs) x at is = (subst (λ w. Is w w) (sym (ap (λ o. unwrap_or o z) at)) is, refl)
-
-  -- it is left, where it stands for itself
-  pub left_next : (n : ℕ) (xs ys : List R) (x : R) → ReplacedTo n xs ys → slice_get xs n ≡ Some x → Is x x → ReplacedTo (suc n) xs ys
-  left_next zero xs ys x h at is = subst (ReplacedTo 1 xs) (sym h) (first_left xs x at is)
-  left_next (suc n) [] [] x h at is = h
-  left_next (suc n) [] (y ∷ ys) x h at is = absurd h
-  left_next (suc n) (z ∷ xs) [] x h at is = absurd h
-  left_next (suc n) (z ∷ xs) (y ∷ ys) x h at is = (h.0, left_next n xs ys x h.1 at is)
-
   -- in the end each item is
   pub replaced_all : (xs ys : List R) → ReplacedTo (length xs) xs ys → AllZip Is xs ys
   replaced_all [] ys h = subst (AllZip Is []) (sym h) _

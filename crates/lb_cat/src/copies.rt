@@ -97,7 +97,7 @@ impl Copied for TableRec {
 }
 
 /// An equal label. It takes no memory.
-fn copy_parts(parts: &Parts) -> Parts
+pub fn copy_parts(parts: &Parts) -> Parts
     ensures { result ≡ parts.now }
 {
     let mut copied = ArrayVec::new();

@@ -121,7 +121,8 @@ impl Catalog {
         ensures { result ≡ kept.look self.now key.now }
     {
         match key {
-            Key::Table(name) | Key::Rows(name) => self.tables.stamp(name),
+            Key::Table(name) => self.tables.stamp(name),
+            Key::Rows(name) => self.tables.stamp(name),
             Key::Policy(name) => self.policies.stamp(name),
             Key::Component(name) => self.components.stamp(name),
             Key::User(name) => self.users.stamp(name),

@@ -21,7 +21,7 @@ pub use catalog::{
     MaskRec, MaskRecs, PermissionRec, PermissionRecs, PolicyRec, Privileges, RoleRec, TableRec,
     UserRec,
 };
-pub use copies::{Copied, copy_records};
+pub use copies::{Copied, copy_parts, copy_records};
 pub use cred::{Cred, CredLabel, CredLabels};
 pub use entry::{Entry, Said};
 pub use kept::Catalog;

@@ -94,6 +94,14 @@ impl<R: Named> Records<R> {
         self.records.len()
     }
 
+    /// The record in this place.
+    fn held(&self, place: usize) -> &Arc<R>
+        requires { place < length self.now }
+        ensures { slice_get self.now place ≡ Some (arc_value result.now) }
+    {
+        &self.records[place]
+    }
+
     /// Another record in the place of the one of its name.
     fn set(&mut self, place: usize, rec: Arc<R>)
         requires there { place < length self.old }
@@ -122,13 +130,29 @@ impl<R: Stamped> Records<R> {
         let alloc = *self.records.allocator();
         let mut marked = self.copy()?;
         for place in 0..self.len() {
-            if let Some(record) = self.at(place) {
-                if is_among::<R>(record, keys.as_slice()) {
-                    marked.set(place, Arc::new(alloc, record.with_stamp(alloc, stamp)?)?);
-                }
-            }
+            let rec = marked_record(alloc, self.held(place), keys.as_slice(), stamp)?;
+            marked.set(place, rec);
         }
         Ok(marked)
+    }
+}
+
+/// The record, with this stamp where its key is among these.
+fn marked_record<R: Stamped>(
+    alloc: Global,
+    rec: &Arc<R>,
+    keys: &[Key],
+    stamp: u64,
+) -> Result<Arc<R>, NoMemory>
+    ensures marked { IfOk result (λ r. IsMarked R.own_key (R.stamped stamp) keys.now (arc_value rec.now) (arc_value r)) }
+    ensures name { IfOk result (λ r. R.name (arc_value r) ≡ R.name (arc_value rec.now)) }
+{
+    if is_among::<R>(rec, keys) {
+        let rec = Arc::new(alloc, rec.with_stamp(alloc, stamp)?)?;
+        Ok(rec)
+    } else {
+        let rec = rec.clone()?;
+        Ok(rec)
     }
 }
 

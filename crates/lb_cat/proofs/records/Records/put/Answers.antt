@@ -16,4 +16,4 @@ pub returns-clause-ok : goal.returns-clause-ok
 returns-clause-ok g c =
     let own : string_bytes c.in_ok-name.name ≡ g.R.Named.name (arc_value c.args.rec) = c.in_ok-name.ensures.ok ∙ c.as_str.ensures.same ∙ c.name.ensures ∙ ap g.R.Named.name c.deref.ensures in
     ap records_in c.in_ok-insert.ensures.entries ∙ put_entry g.R.Named.name c.in_ok-name.name c.args.rec own c.self.inside.records.entries c.self.invariant
-      ∙ ap (put (λ x. bytes_eq (g.R.Named.name x) (g.R.Named.name (arc_value c.args.rec))) (arc_value c.args.rec)) c.self.view_is
+    ∙ ap (put (λ x. bytes_eq (g.R.Named.name x) (g.R.Named.name (arc_value c.args.rec))) (arc_value c.args.rec)) c.self.view_is

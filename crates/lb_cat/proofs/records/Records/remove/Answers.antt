@@ -11,6 +11,6 @@ invariant_of-self g c = subst (AreByName g.R.Named.name) (sym c.shift_remove.ens
 pub returns : goal.returns
 returns g c =
     ap records_in c.shift_remove.ensures.entries
-      ∙ remove_entry g.R.Named.name c.as_str.result.now c.self.inside.records.entries c.self.invariant c.len-count.ensures.unique
-      ∙ ap (without (λ x. bytes_eq (g.R.Named.name x) c.as_str.result.now)) c.self.view_is
-      ∙ ap (λ n. without (λ x. bytes_eq (g.R.Named.name x) n) c.args.self.now) c.as_str.ensures.same
+    ∙ remove_entry g.R.Named.name c.as_str.result.now c.self.inside.records.entries c.self.invariant c.len-count.ensures.unique
+    ∙ ap (without (λ x. bytes_eq (g.R.Named.name x) c.as_str.result.now)) c.self.view_is
+    ∙ ap (λ n. without (λ x. bytes_eq (g.R.Named.name x) n) c.args.self.now) c.as_str.ensures.same

@@ -10,4 +10,4 @@ invariant_of-self g c = by_name_after_set g.R.Named.name c.self.inside.records.e
 pub returns : goal.returns
 returns g c =
     set_entry g.R.Named.name c.self.inside.records.entries c.args.place c.args.rec
-      ∙ ap (λ xs. slice_set xs c.args.place (arc_value c.args.rec)) c.self.view_is
+    ∙ ap (λ xs. slice_set xs c.args.place (arc_value c.args.rec)) c.self.view_is

@@ -1,0 +1,7 @@
+//! What a session of a user with groups may do, read off the catalogue.
+#![tactic(auto)]
+
+mod credentials;
+mod held;
+
+pub use credentials::credentials;
