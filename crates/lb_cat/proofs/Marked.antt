@@ -1,18 +1,14 @@
 -- Stamping records: what stays, and what a look-up finds afterwards.
-use Rattle.std.proofs.Common.{◌≡◌, refl, sym, ap, subst, ◌∙◌, ℕ, Bool, true, false, cond, not, ◌&&◌, if◌then◌else◌, List, [], ◌∷◌, map, Option, None, Some, is_some, true≢false}
+use Rattle.std.proofs.Common.{◌≡◌, refl, ap, ◌∙◌, ℕ, Bool, true, false, cond, ◌&&◌, if◌then◌else◌, List, [], ◌∷◌, map, Some, is_some}
 use Rattle.std.specs.Prelude.{find}
 use Rattle.std.specs.Str.{bytes_eq}
 use Rattle.std.specs.List.{AllZip}
 use Rattle.lb_base.specs.declared.key.Key.{Key}
 use Rattle.lb_base.specs.declared.key.Key.TheVariants as keys
-use Rattle.lb_cat.specs.declared.catalog.TableRec.{TableRec}
-use Rattle.lb_cat.specs.declared.catalog.PolicyRec.{PolicyRec}
 use Rattle.lb_cat.specs.declared.catalog.ComponentRec.{ComponentRec}
-use Rattle.lb_cat.specs.declared.catalog.UserRec.{UserRec}
-use Rattle.lb_cat.specs.Catalog.{Cat, Table, Policy, Component, User}
 use Rattle.lb_cat.specs.Keys.{has_key}
 use Rattle.lb_cat.specs.Records.{IsMarked}
-use Rattle.lb_cat.specs.Stamps.{Kept, bare, bare_table, bare_policy, bare_component, bare_user, stamp_or, look, stamped_table, stamped_policy, stamped_component, stamped_user, marked, marked_stamp, record_key, MarksStampsAlone, IsAlike, IsAlikeComponent}
+use Rattle.lb_cat.specs.Stamps.{Kept, bare, bare_table, bare_policy, bare_component, bare_user, stamp_or, look, stamped_table, stamped_policy, stamped_component, stamped_user, marked, marked_stamp, MarksStampsAlone, IsAlike, IsAlikeComponent}
 use Rattle.lb_cat.proofs.ByName.{same_name}
 
 -- the record with the stamp where its key is among the keys

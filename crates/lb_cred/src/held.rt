@@ -43,7 +43,7 @@ fn label_held(catalog: &Catalog, holding: &Holding) -> Result<CredLabel, NoMemor
 
 // The label of this name of the policy, where both are there.
 fn held_parts(policy: Option<&Arc<PolicyRec>>, name: &Option<Name>) -> Option<Parts>
-    ensures { result ≡ parts_held (option_map (λ p. bare_policy (arc_value p.now)) policy) name.now }
+    ensures { result ≡ parts_held (option_map (λ p. bare_policy (arc_value p.now)) policy.entry) name.now }
 {
     match (policy, name) {
         (Some(policy), Some(name)) => parts_of(policy.labels.as_slice(), name),

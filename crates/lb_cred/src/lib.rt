@@ -1,7 +1,7 @@
 //! What a session of a user with groups may do, read off the catalogue.
 #![tactic(auto)]
 
-mod credentials;
 mod held;
+mod session;
 
-pub use credentials::credentials;
+pub use session::credentials;

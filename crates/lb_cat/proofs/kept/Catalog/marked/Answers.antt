@@ -1,4 +1,4 @@
-use Rattle.std.proofs.Common.{subst, sym}
+use Rattle.std.proofs.Common.{subst}
 use Rattle.lb_base.specs.declared.key.Key.TheVariants as keys
 use Rattle.lb_cat.specs.Stamps.{marked, stamped_table, stamped_policy, stamped_user, IsAlike, Kept}
 use Rattle.lb_cat.proofs.Marked.{marked_list, marked_components}

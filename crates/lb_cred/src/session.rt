@@ -26,6 +26,13 @@ pub fn credentials(
     ensures fits { IfOk result (λ c. (K : StoredRules) → IsSound K (bare catalog.now) → (ks : List Key) → CredFits ks (bare catalog.now) c) }
 {
     lb_alter::credentials_fit();
+    let cred = read_off(alloc, catalog, user, groups)?;
+    Ok(cred)
+}
+
+fn read_off(alloc: Global, catalog: &Catalog, user: &Name, groups: &Names) -> Result<Cred, NoMemory>
+    ensures { IfOk result (λ c. c ≡ cred (bare catalog.now) user.now groups.now) }
+{
     match catalog.user(user) {
         Some(rec) => granted(alloc, catalog, rec, user, groups),
         None => nothing_granted(alloc, catalog, user, groups),
