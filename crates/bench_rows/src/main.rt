@@ -58,7 +58,10 @@ fn main(rt: HostRuntime) -> Result<()> {
     let (count, rounds) = match (words.next(), words.next()) {
         (Some(count), Some(rounds)) => (
             count.as_str().parse::<u32>().context("the number of rows")?,
-            rounds.as_str().parse::<u32>().context("the number of rounds")?,
+            rounds
+                .as_str()
+                .parse::<u32>()
+                .context("the number of rounds")?,
         ),
         _ => (0, 0),
     };

@@ -54,7 +54,13 @@ pub trait Engine {
 
     /// What a plan answers to a session over the tables, on a day in days since 1970-01-01, from -719162 to 2932896.
     /// NoMemory where memory is refused.
-    fn run(alloc: Global, plan: &Self::Plan, cred: &Cred, tables: &Snap, day: i32) -> Result<Outcome, NoMemory>
+    fn run(
+        alloc: Global,
+        plan: &Self::Plan,
+        cred: &Cred,
+        tables: &Snap,
+        day: i32,
+    ) -> Result<Outcome, NoMemory>
         requires taken { takes plan.now cred.now (rows_only tables.now) }
         requires day { IsDay day }
         ensures answer { IfOk result (λ o. Gives o (means plan.now cred.now (rows_only tables.now) day)) };
