@@ -2,3 +2,4 @@ pub mod Bare
 pub mod ByName
 pub mod Marked
 pub mod Marking
+pub mod Stamping

@@ -7,6 +7,7 @@ ghost use Rattle.lb_cat.specs.Stamps.{
   MarksStampsAlone,
   PoliciesAreBare,
   RolesAreBare,
+  StampsFollow,
   TablesAreBare,
   UsersAreBare,
 };
@@ -24,4 +25,9 @@ pub fn records_are_bare()
 /// stamp, and all others have theirs.
 pub fn marks_change_stamps_alone()
     ensures { (S : Kept) (ks : List Key) (stamp : ℕ) → MarksStampsAlone S ks stamp }
+{}
+
+/// A record that is put brings its stamp, one that is dropped leaves 0, and all other stamps stay.
+pub fn stamps_follow_their_records()
+    ensures { (S : Kept) → StampsFollow S }
 {}

@@ -6,7 +6,7 @@ use Rattle.lb_cat.proofs.ByName.{remove_entry, by_name_after_removal}
 use Rattle.lb_cat.proofs.records.Records.remove.Goals as goal
 
 pub invariant_of-self : goal.invariant_of-self
-invariant_of-self g c = subst (AreByName g.R.Named.name) (sym c.shift_remove.ensures.entries) (by_name_after_removal g.R.Named.name c.as_str.result.now c.self.inside.records.entries c.self.invariant)
+invariant_of-self g c = subst (AreByName g.R.Named.name) {y = c.shift_remove.new.self.entries} (sym c.shift_remove.ensures.entries) (by_name_after_removal g.R.Named.name c.as_str.result.now c.self.inside.records.entries c.self.invariant)
 
 pub returns : goal.returns
 returns g c =
