@@ -58,7 +58,10 @@ fn main(rt: HostRuntime) -> Result<()> {
     let (count, rounds) = match (words.next(), words.next()) {
         (Some(count), Some(rounds)) => (
             count.as_str().parse::<u32>().context("the number of rows")?,
-            rounds.as_str().parse::<u32>().context("the number of rounds")?,
+            rounds
+                .as_str()
+                .parse::<u32>()
+                .context("the number of rounds")?,
         ),
         _ => (0, 0),
     };
@@ -67,6 +70,6 @@ fn main(rt: HostRuntime) -> Result<()> {
     for _ in 0..rounds {
         last = fill(alloc, &table)?;
     }
-    println!(rt; "{} rows, then {last}", table.len())?;
+    println!(rt; "{} rows, then {last}", table.iter().count())?;
     Ok(())
 }
