@@ -8,7 +8,8 @@ use Rattle.std.proofs.Math.Seq.{take-append_seam}
 use Rattle.std.proofs.lemmas.Bool.{leb-true, leb-false}
 use Rattle.lb_base.specs.declared.value.Value.{Value}
 use Rattle.lb_rows.specs.declared.chunk.Chunk.{Chunk}
-use Rattle.lb_rows.specs.Chunks.{rows_in, rows_in_chunks, ArePlaced, IsRun}
+use Rattle.lb_rows.specs.Chunks.{rows_in, rows_in_chunks, ArePlaced}
+use Rattle.lb_rows.specs.Runs.{IsRun}
 
 pub rows_push : (chunks : List Chunk) (c : Chunk) → rows_in_chunks (chunks ++ c ∷ []) ≡ rows_in_chunks chunks ++ rows_in c
 rows_push chunks c = flat_map-append rows_in chunks (c ∷ []) ∙ ap (λ (rows : List (List Value)). rows_in_chunks chunks ++ rows) (append-nil (rows_in c))

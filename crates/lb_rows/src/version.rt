@@ -2,7 +2,7 @@
 ghost use Rattle.std.specs.Prelude.{◌≡◌, ◌≤◌, ◌<◌, ◌+◌, ◌++◌, ◌^◌, [], length, IfOk, slice_get};
 ghost use Rattle.std.specs.Option.{option_copied};
 ghost use Rattle.std.specs.Arc.{arc_value};
-ghost use Rattle.lb_rows.specs.Chunks.{IsRun};
+ghost use Rattle.lb_rows.specs.Runs.{IsRun};
 ghost use Rattle.lb_rows.specs.Edits.{AreInOrder, changed, changed_from, left, left_from, place_of};
 
 use crate::builder::Builder;

@@ -1,4 +1,4 @@
-use Rattle.std.proofs.Common.{◌≡◌, ◌∙◌, sym, ap, subst, List, [], ◌∷◌, ◌++◌, drop, length, ◌+◌, ◌<◌, ◌≤◌, ◌^◌, arith}
+use Rattle.std.proofs.Common.{◌≡◌, ◌∙◌, sym, ap, List, [], ◌∷◌, ◌++◌, drop, length, ◌+◌, ◌<◌, ◌≤◌, ◌^◌, arith}
 use Rattle.lb_base.specs.declared.value.Value.{Value}
 use Rattle.lb_rows.proofs.Placed.{run_inside, run_on, none_left}
 use Rattle.lb_rows.proofs.rows.RowsIterator.next.Goals as goal
