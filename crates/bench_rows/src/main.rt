@@ -70,6 +70,6 @@ fn main(rt: HostRuntime) -> Result<()> {
     for _ in 0..rounds {
         last = fill(alloc, &table)?;
     }
-    println!(rt; "{} rows, then {last}", table.len())?;
+    println!(rt; "{} rows, then {last}", table.iter().count())?;
     Ok(())
 }

@@ -5,7 +5,7 @@ use Rattle.std.specs.List.{list_any, slice_get}
 use Rattle.std.specs.List.Sorted.{IsNonDecreasingBy, IsPartitionPoint}
 use Rattle.std.specs.Option.{is_some}
 use Rattle.std.proofs.lemmas.Bool.{ltb-true, ltb-false, le-leb, lt-leb, le-ltb}
-use Rattle.lb_rows.specs.Edits.{is_within}
+use Rattle.lb_rows.specs.Within.{is_within}
 
 -- no number at the end or above it is within
 past : (first end m : ℕ) → end ≤ m → is_within first end m ≡ false

@@ -3,12 +3,13 @@ use Rattle.std.proofs.Common.{◌≡◌, refl, ap, sym, ◌∙◌, ℕ, zero, su
 use Rattle.std.specs.List.{slice_get}
 use Rattle.std.specs.List.Sorted.{IsNonDecreasingBy, IsPartitionPoint}
 use Rattle.std.proofs.lemmas.Grind.{flat_map-append}
-use Rattle.std.proofs.lemmas.List.{append-nil, length-append}
+use Rattle.std.proofs.lemmas.List.{append-nil, drop-drop, length-append, length-drop, take-append-drop}
 use Rattle.std.proofs.Math.Seq.{take-append_seam}
 use Rattle.std.proofs.lemmas.Bool.{leb-true, leb-false}
 use Rattle.lb_base.specs.declared.value.Value.{Value}
 use Rattle.lb_rows.specs.declared.chunk.Chunk.{Chunk}
-use Rattle.lb_rows.specs.Chunks.{rows_in, rows_in_chunks, ArePlaced, IsRun}
+use Rattle.lb_rows.specs.Chunks.{rows_in, rows_in_chunks, ArePlaced}
+use Rattle.lb_rows.specs.Runs.{IsRun}
 
 pub rows_push : (chunks : List Chunk) (c : Chunk) → rows_in_chunks (chunks ++ c ∷ []) ≡ rows_in_chunks chunks ++ rows_in c
 rows_push chunks c = flat_map-append rows_in chunks (c ∷ []) ∙ ap (λ (rows : List (List Value)). rows_in_chunks chunks ++ rows) (append-nil (rows_in c))
@@ -166,3 +167,20 @@ run_in_last front last run place few past is =
     let nil : last ++ [] ≡ last = append-nil last in
     let here = subst (λ (rows : List (List Value)). IsRun rows (place - length front) (drop (place - length front) last)) nil (run_here last [] (place - length front) few (λ h. refl)) in
     subst (λ (k : ℕ). IsRun (front ++ last) k run) same (run_behind front last run (place - length front) (subst (λ (r : List (List Value)). IsRun last (place - length front) r) (sym is) here))
+
+-- what is left of the rows from a place on, by the run there
+pub run_on : (rows run : List (List Value)) (k : ℕ) → IsRun rows k run → run ++ drop (k + length run) rows ≡ drop k rows
+run_on rows run k is =
+    ap (λ (r : List (List Value)). run ++ r) (sym (drop-drop (length run) k rows)) ∙ ap (λ (r : List (List Value)). r ++ drop (length run) (drop k rows)) (sym is.begins)
+    ∙ take-append-drop (length run) (drop k rows)
+
+-- a run stands within the rows
+pub run_inside : (rows run : List (List Value)) (k : ℕ) → IsRun rows k run → 0 < length run → k + length run ≤ length rows
+run_inside rows run k is some =
+    let whole : length (drop k rows) ≡ length run + length (drop (k + length run) rows) = ap length (sym (run_on rows run k is)) ∙ length-append run (drop (k + length run) rows) in
+    let rest : length (drop k rows) ≡ length rows - k = length-drop k rows in
+    omega arith
+
+pub none_left : (run : List (List Value)) → length run ≡ 0 → run ≡ []
+none_left [] h = refl
+none_left (r ∷ run) h = absurd (omega arith)

@@ -6,7 +6,8 @@ use Rattle.std.specs.Option.{is_some, option_copied}
 use Rattle.std.proofs.lemmas.Bool.{eqb-true, le-leb, lt-ltb}
 use Rattle.lb_base.specs.declared.value.Value.{Value}
 use Rattle.lb_rows.specs.declared.edit.ChangedRow.{ChangedRow}
-use Rattle.lb_rows.specs.Edits.{rows_changed_from, changed_row, is_one_of, is_change_at, is_change_within, is_within, rows_remaining_from, new_or}
+use Rattle.lb_rows.specs.Edits.{rows_changed_from, changed_row, is_one_of, is_change_at, rows_remaining_from, new_or}
+use Rattle.lb_rows.specs.Within.{is_change_within, is_within}
 
 is_inside : (first end place n : ℕ) → first ≤ place → place < end → eqb n place ≡ true → is_within first end n ≡ true
 is_inside first end place n low high is =

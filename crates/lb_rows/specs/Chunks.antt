@@ -1,5 +1,5 @@
 -- Rows in chunks.
-use Rattle.std.specs.Prelude.{◌≡◌, ℕ, ◌+◌, ◌≤◌, ◌<◌, List, [], ◌∷◌, drop, length, take}
+use Rattle.std.specs.Prelude.{◌≡◌, ℕ, ◌+◌, ◌≤◌, List, [], ◌∷◌, length}
 use Rattle.std.specs.List.{flat_map}
 use Rattle.std.specs.Arc.{arc_value}
 use Rattle.lb_base.specs.declared.value.Value.{Value}
@@ -17,9 +17,3 @@ rows_in_chunks chunks = flat_map rows_in chunks
 abbrev pub ArePlaced : ℕ → List Chunk → Type 0
 ArePlaced place [] = Unit {0}
 ArePlaced place (chunk ∷ chunks) = (chunk.first ≡ place) × (length (rows_in chunk) ≤ 256) × ArePlaced (place + length (rows_in chunk)) chunks
-
--- a run: some of the rows from a place on, one after another, at most 256, and at least one where there is any
-pub record IsRun (rows : List (List Value)) (place : ℕ) (run : List (List Value)) : Type 0 where
-  pub begins : take (length run) (drop place rows) ≡ run
-  pub few : length run ≤ 256
-  pub some : place < length rows → 0 < length run

@@ -1,5 +1,5 @@
 -- The rows that an UPDATE and a DELETE leave: some replaced, some left out, by their places.
-use Rattle.std.specs.Prelude.{ℕ, suc, Bool, ◌==◌, ◌&&◌, nat_le, nat_lt, if◌then◌else◌, List, [], ◌∷◌, find, Option, None, Some}
+use Rattle.std.specs.Prelude.{ℕ, suc, Bool, ◌==◌, if◌then◌else◌, List, [], ◌∷◌, find, Option, None, Some}
 use Rattle.std.specs.List.{list_any}
 use Rattle.std.specs.List.Sorted.{IsNonDecreasingBy}
 use Rattle.lb_base.specs.declared.value.Value.{Value}
@@ -47,11 +47,3 @@ rows_remaining_from places place (row ∷ rows) = if is_one_of places place then
 -- the rows of a table without those at the places, which count from 0
 abbrev pub rows_remaining : List ℕ → List (List Value) → List (List Value)
 rows_remaining places rows = rows_remaining_from places 0 rows
-
--- the number is from `first` on and below `end`
-abbrev pub is_within : ℕ → ℕ → ℕ → Bool
-is_within first end n = nat_le first n && nat_lt n end
-
--- the change is of a row at such a place
-abbrev pub is_change_within : ℕ → ℕ → ChangedRow → Bool
-is_change_within first end change = is_within first end change.place

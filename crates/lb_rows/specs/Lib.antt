@@ -3,5 +3,7 @@ pub mod Edits
 pub mod KeyValues
 pub mod Kept
 pub mod Lists
+pub mod Runs
 pub mod Stamped
 pub mod Tables
+pub mod Within

@@ -2,7 +2,8 @@
 ghost use Rattle.std.specs.Prelude.{◌≡◌, ◌≤◌, ◌<◌, ◌+◌, ◌-◌, ◌++◌, ◌^◌, ◌↔◌, [], length, IfOk, OnOk, OnErr, slice_get, drop, take};
 ghost use Rattle.std.specs.Option.{option_copied};
 ghost use Rattle.std.specs.Arc.{arc_value};
-ghost use Rattle.lb_rows.specs.Chunks.{ArePlaced, IsRun, rows_in_chunks};
+ghost use Rattle.lb_rows.specs.Chunks.{ArePlaced, rows_in_chunks};
+ghost use Rattle.lb_rows.specs.Runs.{IsRun};
 
 use lb_base::{NoMemory, Row, RowList};
 use std::alloc::Global;

@@ -2,7 +2,8 @@
 ghost use Rattle.std.specs.Prelude.{◌≡◌, ◌+◌, ◌<◌, ◌^◌, find, IfOk};
 ghost use Rattle.std.specs.Option.{option_copied};
 ghost use Rattle.std.specs.List.{list_any};
-ghost use Rattle.lb_rows.specs.Edits.{AreInOrder, changed_row, is_one_of, is_change_within, is_within, place_of};
+ghost use Rattle.lb_rows.specs.Edits.{AreInOrder, changed_row, is_one_of, place_of};
+ghost use Rattle.lb_rows.specs.Within.{is_change_within, is_within};
 
 use crate::item::item_at;
 use lb_base::{NoMemory, Row};

@@ -5,10 +5,12 @@ mod builder;
 mod chunk;
 mod edit;
 mod item;
+mod rows;
 mod snap;
 mod version;
 
 pub use chunk::CHUNK_LIMIT;
 pub use edit::ChangedRow;
+pub use rows::Rows;
 pub use snap::{Snap, StampedVersion, TABLE_LIMIT};
 pub use version::TableVersion;

@@ -2,12 +2,13 @@
 ghost use Rattle.std.specs.Prelude.{◌≡◌, ◌≤◌, ◌<◌, ◌+◌, ◌++◌, ◌^◌, [], length, IfOk, slice_get};
 ghost use Rattle.std.specs.Option.{option_copied};
 ghost use Rattle.std.specs.Arc.{arc_value};
-ghost use Rattle.lb_rows.specs.Chunks.{IsRun};
+ghost use Rattle.lb_rows.specs.Runs.{IsRun};
 ghost use Rattle.lb_rows.specs.Edits.{AreInOrder, rows_changed, rows_changed_from, rows_remaining, rows_remaining_from, place_of};
 
 use crate::builder::Builder;
 use crate::chunk::{CHUNK_LIMIT, Chunks, rest_of, run_from};
 use crate::edit::{ChangedRow, change_within, has_place_within};
+use crate::rows::Rows;
 use lb_base::{Listing, Name, NoMemory, Row, RowList};
 use std::alloc::Global;
 use std::marker::Model;
@@ -74,6 +75,13 @@ impl TableVersion {
         } else {
             rest_of(self.last.as_slice(), (place - front) as usize)
         }
+    }
+
+    /// Goes over the rows in table order, chunk after chunk.
+    pub fn iter(&self) -> Rows<'_>
+        ensures { result ≡ self.now.rows }
+    {
+        Rows::of(self)
     }
 
     /// The table with these rows in place of its own.

@@ -1,7 +1,7 @@
 use Rattle.std.proofs.Common.{◌≡◌, ◌∙◌, ap, subst, drop, length, List, ◌-◌, ◌<◌, ◌≤◌}
 use Rattle.std.specs.Arc.{arc_value}
 use Rattle.lb_base.specs.declared.value.Value.{Value}
-use Rattle.lb_rows.specs.Chunks.{IsRun}
+use Rattle.lb_rows.specs.Runs.{IsRun}
 use Rattle.lb_rows.specs.Tables.{Version}
 use Rattle.lb_rows.proofs.Placed.{run_in_front, run_in_last}
 use Rattle.lb_rows.proofs.version.TableVersion.rows_from.Goals as goal
