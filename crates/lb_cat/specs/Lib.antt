@@ -3,6 +3,7 @@ pub mod Credentials
 pub mod Holdings
 pub mod Keys
 pub mod Privileges
+pub mod Records
 pub mod Stamps
 pub mod Numbers
 pub mod OrRefused

@@ -1,5 +1,5 @@
 -- The records that the program keeps have stamps. The catalogue without them is `bare`.
-use Rattle.std.specs.Prelude.{ℕ, ◌≡◌, Bool, List, map, find, Option, None, Some, option_map}
+use Rattle.std.specs.Prelude.{ℕ, ◌≡◌, Bool, ◌&&◌, if◌then◌else◌, List, map, find, Option, None, Some, is_some, option_map}
 use Rattle.std.specs.Arc.{arc_value}
 use Rattle.std.specs.List.{list_any}
 use Rattle.std.specs.Str.{bytes_eq}
@@ -11,6 +11,7 @@ use Rattle.lb_cat.specs.declared.catalog.ComponentRec.{ComponentRec}
 use Rattle.lb_cat.specs.declared.catalog.UserRec.{UserRec}
 use Rattle.lb_cat.specs.declared.catalog.RoleRec.{RoleRec}
 use Rattle.lb_rows.specs.Lists.{put, without}
+use Rattle.lb_cat.specs.Keys.{has_key}
 use Rattle.lb_cat.specs.Catalog.{Cat, Table, Policy, Component, User, table_named, policy_named, component_named, user_named, has_role, put_table, put_policy, put_component, put_user, put_role, drop_table, drop_policy, drop_component, drop_role}
 
 -- the catalogue as it is kept
@@ -132,6 +133,69 @@ with_kept_role r S = record S { roles = put (λ x. bytes_eq x.name r.name) r S.r
 -- without the role of that name
 abbrev pub without_kept_role : List ℕ → Kept → Kept
 without_kept_role n S = record S { roles = without (λ x. bytes_eq x.name n) S.roles }
+
+-- ---- stamping the records under some keys
+
+-- the record with this stamp: a table
+abbrev pub stamped_table : ℕ → TableRec → TableRec
+stamped_table stamp t = record t { stamp = stamp }
+
+-- a policy
+abbrev pub stamped_policy : ℕ → PolicyRec → PolicyRec
+stamped_policy stamp p = record p { stamp = stamp }
+
+-- a component
+abbrev pub stamped_component : ℕ → ComponentRec → ComponentRec
+stamped_component stamp c = record c { stamp = stamp }
+
+-- and a user
+abbrev pub stamped_user : ℕ → UserRec → UserRec
+stamped_user stamp u = record u { stamp = stamp }
+
+-- the records under the keys get this stamp, and all else stays; a Rows key is that of no record
+abbrev pub marked : List Key → ℕ → Kept → Kept
+marked ks stamp K = record {
+  tables = map (λ t. if has_key (keys.Table t.name) ks then stamped_table stamp t else t) K.tables;
+  policies = map (λ p. if has_key (keys.Policy p.name) ks then stamped_policy stamp p else p) K.policies;
+  components = map (λ c. if has_key (keys.Component c.name) ks then stamped_component stamp c else c) K.components;
+  users = map (λ u. if has_key (keys.User u.name) ks then stamped_user stamp u else u) K.users;
+  roles = K.roles;
+}
+
+-- a key is looked up under the record that it names, Rows under that of the table
+abbrev pub record_key : Key → Key
+record_key (keys.Rows n) = keys.Table n
+record_key k = k
+
+-- the record under a key is there
+abbrev pub has_record : Kept → Key → Bool
+has_record K (keys.Table n) = is_some (kept_table K n)
+has_record K (keys.Rows n) = is_some (kept_table K n)
+has_record K (keys.Policy n) = is_some (kept_policy K n)
+has_record K (keys.Component n) = is_some (kept_component K n)
+has_record K (keys.User n) = is_some (kept_user K n)
+
+-- a key's stamp once the records under some keys got this one: it where the record is among them and there, else the stamp it had
+abbrev pub marked_stamp : List Key → ℕ → Kept → Key → ℕ
+marked_stamp ks stamp K k = if has_key (record_key k) ks && has_record K k then stamp else look K k
+
+-- records are stamped without a change of what they say
+pub record MarksStampsAlone (K : Kept) (ks : List Key) (stamp : ℕ) : Type 0 where
+  pub bare : bare (marked ks stamp K) ≡ bare K
+  pub stamps : (k : Key) → look (marked ks stamp K) k ≡ marked_stamp ks stamp K k
+
+-- two records of one component with one stamp, where each may have the component in an Arc of its own
+abbrev pub IsAlikeComponent : ComponentRec → ComponentRec → Type 0
+IsAlikeComponent c d = (bare_component c ≡ bare_component d) × (c.stamp ≡ d.stamp)
+
+-- one catalogue, where components may stand in other Arcs
+pub record IsAlike (K L : Kept) : Type 0 where
+  pub tables : K.tables ≡ L.tables
+  pub policies : K.policies ≡ L.policies
+  pub components : map bare_component K.components ≡ map bare_component L.components
+  pub component_stamps : map (λ c. c.stamp) K.components ≡ map (λ c. c.stamp) L.components
+  pub users : K.users ≡ L.users
+  pub roles : K.roles ≡ L.roles
 
 -- ---- taking the stamps away, and looking up, putting or dropping a record, come to the same in either order
 

@@ -1,0 +1,132 @@
+// The records of one kind, found by name and by place, in the order of making.
+ghost use Rattle.std.specs.Prelude.{◌≡◌, ◌<◌, [], Some, find, length, slice_get, slice_set, OnOk, OnErr, IfOk};
+ghost use Rattle.std.specs.Option.{option_map};
+ghost use Rattle.std.specs.Arc.{arc_value};
+ghost use Rattle.std.specs.List.{AllZip};
+ghost use Rattle.std.specs.Str.{bytes_eq};
+ghost use Rattle.lb_rows.specs.Lists.{put, without};
+ghost use Rattle.lb_cat.specs.Keys.{has_key};
+ghost use Rattle.lb_cat.specs.Records.{IsMarked};
+
+use crate::keys::Keys;
+use crate::named::{Named, Stamped};
+use indexmap::IndexMap;
+use lb_base::{Key, Name, NoMemory};
+use std::alloc::Global;
+use std::marker::Model;
+use std::sync::Arc;
+
+/// The records of one kind. Contracts see the list of them in the order of making.
+#[derive(Drop)]
+pub struct Records<R: Named> {
+    records: IndexMap<String, Arc<R>>,
+}
+
+impl<R: Named> Model for Records<R> {
+    ghost use Rattle.std.specs.Prelude.{List};
+
+    ghost Value = { List R };
+
+    ghost use Rattle.lb_cat.specs.Records.{records_in, AreByName};
+
+    ghost view = { λ r. records_in r.records.entries };
+
+    ghost invariant = { λ r. AreByName R.name r.records.entries };
+}
+
+impl<R: Named> Records<R> {
+    /// No record. It takes no memory yet.
+    pub fn empty(alloc: Global) -> Self
+        ensures { result ≡ [] }
+    {
+        Records {
+            records: IndexMap::new(alloc),
+        }
+    }
+
+    /// The record goes last, or into the place of the one of its name. Where memory is refused nothing changes.
+    pub fn put(&mut self, rec: Arc<R>) -> Result<(), NoMemory>
+        ensures ok { OnOk result (self.new ≡ put (λ x. bytes_eq (R.name x) (R.name (arc_value rec))) (arc_value rec) self.old) }
+        ensures err { OnErr result (self.new ≡ self.old) }
+    {
+        let name = String::from_str(*self.records.allocator(), rec.name().as_str())?;
+        self.records.insert(name, rec)?;
+        Ok(())
+    }
+
+    /// Without the record of this name. The others keep their order.
+    pub fn remove(&mut self, name: &Name)
+        ensures { self.new ≡ without (λ x. bytes_eq (R.name x) name.now) self.old }
+    {
+        self.records.shift_remove(name.as_str());
+    }
+
+    /// The record in this place, and `None` exactly past the last one.
+    pub fn at(&self, place: usize) -> Option<&Arc<R>>
+        ensures { option_map (λ r. arc_value r.now) result ≡ slice_get self.now place }
+    {
+        let (_, record) = self.records.get_index(place)?;
+        Some(record)
+    }
+
+    /// The record of this name, and `None` exactly where there is none.
+    pub fn named(&self, name: &Name) -> Option<&Arc<R>>
+        ensures { option_map (λ r. arc_value r.now) result ≡ find (λ x. bytes_eq (R.name x) name.now) self.now }
+    {
+        self.records.get(name.as_str())
+    }
+
+    /// The same records once more, which are shared.
+    pub fn copy(&self) -> Result<Records<R>, NoMemory>
+        ensures { IfOk result (λ c. c ≡ self.now) }
+    {
+        let records = self.records.clone()?;
+        Ok(Records { records })
+    }
+
+    /// How many records there are.
+    pub fn len(&self) -> usize
+        ensures { result ≡ length self.now }
+    {
+        self.records.len()
+    }
+
+    /// Another record in the place of the one of its name.
+    fn set(&mut self, place: usize, rec: Arc<R>)
+        requires there { place < length self.old }
+        requires name { (r : R) → slice_get self.old place ≡ Some r → R.name (arc_value rec) ≡ R.name r }
+        ensures { self.new ≡ slice_set self.old place (arc_value rec) }
+    {
+        self.records[place] = rec;
+    }
+}
+
+impl<R: Stamped> Records<R> {
+    /// The records, of which those whose keys are among these have this stamp.
+    pub fn marked(&self, keys: &Keys, stamp: u64) -> Result<Records<R>, NoMemory>
+        ensures { IfOk result (AllZip (IsMarked R.key (R.stamped stamp) keys.now) self.now) }
+    {
+        let alloc = *self.records.allocator();
+        let mut marked = self.copy()?;
+        for place in 0..self.len() {
+            if let Some(record) = self.at(place) {
+                if is_among::<R>(record, keys.as_slice()) {
+                    marked.set(place, Arc::new(alloc, record.with_stamp(alloc, stamp)?)?);
+                }
+            }
+        }
+        Ok(marked)
+    }
+}
+
+/// Whether the record's key is among these.
+fn is_among<R: Stamped>(rec: &R, keys: &[Key]) -> bool
+    ensures { result ≡ has_key (R.key rec.now) keys.now }
+{
+    for key in keys {
+        if rec.has_key(key) {
+            return true;
+        }
+    }
+    false
+}

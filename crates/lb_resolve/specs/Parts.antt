@@ -1,0 +1,98 @@
+-- The first refusal of a pass over each kind of part, as the code goes through it. It stands in private contracts alone.
+use Rattle.std.specs.Prelude.{◌≡◌, Option, None, Some, Bool, List, [], ◌∷◌, ◌++◌, map}
+use Rattle.lb_tree.specs.declared.query.Tab.{Tab}
+use Rattle.lb_tree.specs.declared.query.Column.{Column}
+use Rattle.lb_tree.specs.declared.query.Cond.{Cond}
+use Rattle.lb_tree.specs.declared.query.Expr.{Expr}
+use Rattle.lb_tree.specs.declared.query.Item.{Item}
+use Rattle.lb_tree.specs.declared.query.Join.{Join}
+use Rattle.lb_tree.specs.declared.query.Arm.{Arm}
+use Rattle.lb_tree.specs.declared.query.Chain.{Chain}
+use Rattle.lb_tree.specs.declared.query.Choice.{Choice}
+use Rattle.lb_tree.specs.declared.query.Query.{Query}
+use Rattle.lb_tree.specs.declared.query.Signed.{Signed}
+use Rattle.lb_tree.specs.declared.query.Atom.{Atom}
+use Rattle.lb_tree.specs.Folds.{cond_of, expr_of, item_of, join_of, arm_of, chain_of, choice_of, query_of, signed_of}
+use Rattle.lb_names.specs.declared.place.Seen.{Seen}
+use Rattle.lb_names.specs.declared.refused.Refused.{Refused}
+use Rattle.lb_names.specs.Sights.{Name, Sight, correlation, calls_of, inside}
+use Rattle.lb_names.specs.Marks.{item, column, marked, mark_steps, atom_marks, tables_of_chain}
+use Rattle.lb_names.specs.SortNames.{or_else}
+use Rattle.lb_names.specs.Passes.{first}
+use Rattle.lb_resolve.specs.declared.mark.Walk.{Walk}
+use Rattle.lb_resolve.specs.Passing.{asked}
+
+-- the first of all parts in order
+abbrev pub of_all : {A : Type 0} → (A → Sight → Option Refused) → List A → Sight → Option Refused
+of_all f [] v = None
+of_all f (x ∷ xs) v = or_else (f x v) (of_all f xs v)
+
+-- of a part that may be missing
+abbrev pub of_maybe : {A : Type 0} → (A → Sight → Option Refused) → Option A → Sight → Option Refused
+of_maybe f None v = None
+of_maybe f (Some x) v = f x v
+
+module _ (w : Walk) where
+  -- of each kind of node
+  unfoldable pub in_cond : Cond → Sight → Option Refused
+  in_cond c v = first (asked w) ((cond_of marked mark_steps c).marks v)
+
+  unfoldable pub in_expr : Expr → Sight → Option Refused
+  in_expr e v = first (asked w) ((expr_of marked mark_steps e).marks v)
+
+  unfoldable pub in_item : Item → Sight → Option Refused
+  in_item i v = first (asked w) ((item_of marked mark_steps i).marks v)
+
+  unfoldable pub in_arm : Arm → Sight → Option Refused
+  in_arm a v = first (asked w) ((arm_of marked mark_steps a).marks v)
+
+  unfoldable pub in_choice : Choice → Sight → Option Refused
+  in_choice c v = first (asked w) ((choice_of marked mark_steps c).marks v)
+
+  unfoldable pub in_signed : Signed → Sight → Option Refused
+  in_signed s v = first (asked w) ((signed_of marked mark_steps s).marks v)
+
+  unfoldable pub in_query : Query → Sight → Option Refused
+  in_query q v = first (asked w) ((query_of marked mark_steps q).marks v)
+
+  -- of a leaf
+  abbrev pub in_atom : Atom → Sight → Option Refused
+  in_atom a v = first (asked w) (atom_marks a v)
+
+  -- of the columns of GROUP BY
+  abbrev pub in_group : List Seen → List Column → Option Refused
+  in_group seen [] = None
+  in_group seen (c ∷ cs) = or_else (asked w (column seen c)) (in_group seen cs)
+
+  -- the table of a join
+  unfoldable pub tab_of : Join → Tab
+  tab_of j = (join_of marked mark_steps j).tab
+
+  -- of the ON condition of a join
+  unfoldable pub in_on : Join → Sight → Option Refused
+  in_on j v = first (asked w) ((join_of marked mark_steps j).on v)
+
+  -- what an ON condition sees: these tables of its chain; these names are taken
+  abbrev pub on_sight : Sight → List Name → List Tab → Sight
+  on_sight outer taken tabs = record (inside outer tabs) { around = taken }
+
+  -- of the joins of a chain after these tables of it, and after these correlation names of the query; those that are taken are given
+  abbrev pub in_joins : Sight → List Name → List Name → List Tab → List Join → Option Refused
+  in_joins outer taken before tabs [] = None
+  in_joins outer taken before tabs (j ∷ joins) =
+      or_else (asked w (item before outer.around (tab_of j)))
+      (or_else (in_on j (on_sight outer taken (tabs ++ tab_of j ∷ [])))
+      (in_joins outer taken (before ++ correlation (tab_of j) ∷ []) (tabs ++ tab_of j ∷ []) joins))
+
+  -- of a chain
+  abbrev pub in_chain : Sight → List Name → List Name → Chain → Option Refused
+  in_chain outer taken before ch =
+      or_else (asked w (item before outer.around ch.first))
+      (in_joins outer taken (before ++ correlation ch.first ∷ []) (ch.first ∷ []) ch.joins)
+
+  -- of the chains after these correlation names of the query
+  abbrev pub in_chains : Sight → List Name → List Name → List Chain → Option Refused
+  in_chains outer taken before [] = None
+  in_chains outer taken before (ch ∷ chains) =
+      or_else (in_chain outer taken before ch)
+      (in_chains outer taken (before ++ calls_of (tables_of_chain (chain_of marked mark_steps ch))) chains)
