@@ -1,15 +1,17 @@
 -- What the code of typing is given and what it gives, as the definitions see it. Only contracts of private functions cite these.
-use Rattle.std.specs.Prelude.{ℕ, ◌≡◌, Bool, true, List, map, Option, None, Some, option_map, Result, Ok, Err}
+use Rattle.std.specs.Prelude.{ℕ, ◌≡◌, Bool, true, if◌then◌else◌, List, map, Option, None, Some, option_map, Result, Ok, Err}
 use Rattle.std.specs.List.{filter, flat_map}
 use Rattle.std.specs.Str.{bytes_eq}
 use Rattle.lb_names.specs.declared.place.Seen.{Seen}
 use Rattle.lb_names.specs.declared.place.Group.{Group}
-use Rattle.lb_names.specs.Sights.{Name, correlation}
+use Rattle.lb_names.specs.Sights.{Name, Sight, correlation}
 use Rattle.lb_names.specs.Kinds as kinds
 use Rattle.lb_names.specs.Scopes.{Catalogue, resolve, spots}
 use Rattle.lb_names.specs.Typed.{Typed}
 use Rattle.lb_names.specs.Places as places
 use Rattle.lb_names.specs.Carriers as carriers
+use Rattle.lb_names.specs.SelectLists.{widths}
+use Rattle.lb_names.specs.Typing.{is_width}
 use Rattle.lb_types.specs.declared.kind.Kind.{Kind}
 use Rattle.lb_types.specs.declared.kind.Kind.TheVariants as lent
 use Rattle.lb_types.specs.declared.kind.Common.{Common}
@@ -76,6 +78,10 @@ role_in R = record { subquery = R.subquery; one = R.one; total = R.total; wanted
 -- what is wanted of a select list
 abbrev pub wanted_in : Wanted → carriers.Wanted
 wanted_in W = record { one = W.one; grouped = W.grouped; distinct = W.distinct; kinds = lent_kinds W.kinds }
+
+-- outputs are paired with the columns that take them only where there are as many
+abbrev pub paired_kinds : Catalogue → List carriers.Shows → Option (List kinds.Kind) → Sight → Option (List kinds.Kind)
+paired_kinds C items wanted v = if is_width wanted (widths items v.own) then wanted else None
 
 -- ---- results
 

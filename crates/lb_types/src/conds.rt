@@ -20,6 +20,7 @@ use std::alloc::Global;
 
 /// The number after the last part of a condition.
 #[cycle(typing)]
+#[tactic(auto, using(crate::proofs::Kinds::typed_or, crate::proofs::Kinds::typed_and, crate::proofs::Kinds::typed_not, crate::proofs::Kinds::typed_exists, crate::proofs::Kinds::typed_compare, crate::proofs::Kinds::typed_comparequery, crate::proofs::Kinds::typed_isnull, crate::proofs::Kinds::typed_inquery, crate::proofs::Kinds::typed_inlist, crate::proofs::Kinds::typed_between, crate::proofs::Steps::stops_then))]
 pub fn typed(
     catalog: &Catalog,
     alloc: Global,
@@ -94,6 +95,7 @@ fn first_kind<'a>(kinds: &[Kind<'a>]) -> Kind<'a>
 
 /// Each condition in its turn.
 #[cycle(typing)]
+#[tactic(auto, using(crate::proofs::Steps::stops_then))]
 fn all_typed(
     catalog: &Catalog,
     alloc: Global,
@@ -112,6 +114,7 @@ fn all_typed(
 
 /// A condition that may be missing, as WHERE and HAVING.
 #[cycle(typing)]
+#[tactic(auto, using(crate::proofs::Steps::stops_then))]
 pub fn maybe_typed(
     catalog: &Catalog,
     alloc: Global,

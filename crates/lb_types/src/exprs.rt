@@ -24,6 +24,7 @@ use std::alloc::Global;
 
 /// The kind of an expression, and the number after its last part.
 #[cycle(typing)]
+#[tactic(auto, using(crate::proofs::Kinds::kind_atom, crate::proofs::Kinds::kind_sum, crate::proofs::Kinds::kind_concat, crate::proofs::Kinds::kind_product, crate::proofs::Kinds::kind_case, crate::proofs::Kinds::kind_match, crate::proofs::Kinds::kind_aggregate, crate::proofs::Kinds::kind_substr, crate::proofs::Kinds::kind_apply, crate::proofs::Kinds::kind_coalesce, crate::proofs::Steps::stops_then))]
 pub fn kind_of<'a>(
     catalog: &'a Catalog,
     alloc: Global,
@@ -103,6 +104,7 @@ fn aggregate_kind<'a>(
 
 /// The kind so far with that of one more.
 #[cycle(typing)]
+#[tactic(auto, using(crate::proofs::Steps::stops_then))]
 pub fn kind_with<'a>(
     catalog: &'a Catalog,
     alloc: Global,
@@ -118,6 +120,7 @@ pub fn kind_with<'a>(
 
 /// The kind so far with that of a part that may be missing.
 #[cycle(typing)]
+#[tactic(auto, using(crate::proofs::Steps::stops_then))]
 fn kind_of_any<'a>(
     catalog: &'a Catalog,
     alloc: Global,
@@ -135,6 +138,7 @@ fn kind_of_any<'a>(
 
 /// The kind that all have in common with the first.
 #[cycle(typing)]
+#[tactic(auto, using(crate::proofs::Steps::stops_then))]
 pub fn kind_of_all<'a>(
     catalog: &'a Catalog,
     alloc: Global,
@@ -157,6 +161,7 @@ pub fn kind_of_all<'a>(
 
 /// The kind that the parts of a sum have in common with an integer.
 #[cycle(typing)]
+#[tactic(auto, using(crate::proofs::Steps::stops_then))]
 fn kind_of_parts<'a>(
     catalog: &'a Catalog,
     alloc: Global,
@@ -178,6 +183,7 @@ fn kind_of_parts<'a>(
 
 /// The kind of the result of WHEN condition THEN result.
 #[cycle(typing)]
+#[tactic(auto, using(crate::proofs::Steps::stops_then), unfolding(lb_names::specs::Parts::kind_of_arm))]
 fn kind_of_arm<'a>(
     catalog: &'a Catalog,
     alloc: Global,
@@ -193,6 +199,7 @@ fn kind_of_arm<'a>(
 
 /// The kind that the results have in common.
 #[cycle(typing)]
+#[tactic(auto, using(crate::proofs::Steps::stops_then))]
 fn kind_of_arms<'a>(
     catalog: &'a Catalog,
     alloc: Global,
@@ -214,6 +221,7 @@ fn kind_of_arms<'a>(
 
 /// The kinds of both parts of WHEN value THEN result.
 #[cycle(typing)]
+#[tactic(auto, using(crate::proofs::Steps::stops_then), unfolding(lb_names::specs::Parts::kinds_of_choice, lb_names::specs::Parts::and_kind))]
 fn kinds_of_choice<'a>(
     catalog: &'a Catalog,
     alloc: Global,
@@ -230,6 +238,7 @@ fn kinds_of_choice<'a>(
 
 /// The kind that the operands have in common with the first, and the kind of the results.
 #[cycle(typing)]
+#[tactic(auto, using(crate::proofs::Steps::stops_then))]
 fn kinds_of_choices<'a>(
     catalog: &'a Catalog,
     alloc: Global,

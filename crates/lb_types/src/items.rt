@@ -166,6 +166,7 @@ fn value_outputs<'a>(
 
 /// The kinds of the outputs of an item.
 #[cycle(typing)]
+#[tactic(auto, using(crate::proofs::Steps::stops_then))]
 fn item_outputs<'a>(
     catalog: &'a Catalog,
     alloc: Global,
@@ -218,6 +219,7 @@ fn rest<'a>(columns: &'a [Kind<'a>], outputs: usize) -> &'a [Kind<'a>]
 
 /// The kinds of the outputs of these items.
 #[cycle(typing)]
+#[tactic(auto, using(crate::proofs::Steps::stops_then))]
 pub fn outputs_of<'a>(
     catalog: &'a Catalog,
     alloc: Global,

@@ -1,14 +1,17 @@
 // The types of queries: select list, FROM, WHERE, GROUP BY, HAVING, and then the query's own rules.
-ghost use Rattle.std.specs.Prelude.{◌≡◌, ◌++◌, ◌∷◌, [], ◌||◌, if◌then◌else◌, IfOk, map, option_map};
-ghost use Rattle.std.specs.List.{list_any};
+ghost use Rattle.std.specs.Prelude.{◌≡◌, ◌++◌, ◌∷◌, [], ◌||◌, if◌then◌else◌, IfOk, List, map, option_map, ℕ};
+ghost use Rattle.std.specs.List.{flat_map, list_any};
+ghost use Rattle.lb_tree.specs.declared.query.Cond.TheViews.{out-Query};
+ghost use Rattle.lb_names.specs.Expressions as expressions;
 ghost use Rattle.lb_names.specs.Places as places;
 ghost use Rattle.lb_names.specs.Scopes as scopes;
 ghost use Rattle.lb_names.specs.SelectLists as lists;
-ghost use Rattle.lb_names.specs.Sights as sights;
+ghost use Rattle.lb_names.specs.Typed as typed;
+ghost use Rattle.lb_names.specs.Typed.{◌>>=◌};
 ghost use Rattle.lb_names.specs.Typing as trees;
 ghost use Rattle.lb_scope.specs.Found.{catalogue};
-ghost use Rattle.lb_types.specs.Given.{Gives, Goes, group_in, kinds_in, place_in, role_in, wanted_in};
-ghost use Rattle.lb_walk.specs.Opened.{chain_of};
+ghost use Rattle.lb_types.specs.Given.{Gives, Goes, group_in, kinds_in, lent_kinds, paired_kinds, place_in, role_in, wanted_in};
+ghost use Rattle.lb_walk.specs.Opened.{chain_of, query_in};
 
 use crate::conds::{maybe_typed, typed};
 use crate::items::{are_so_many, items_have_total, outputs_of};
@@ -25,6 +28,7 @@ use std::alloc::Global;
 
 /// The kinds of the outputs of a query.
 #[cycle(typing)]
+#[tactic(auto, using(crate::proofs::Steps::stops_then))]
 pub fn kinds_of<'a>(
     catalog: &'a Catalog,
     alloc: Global,
@@ -83,6 +87,7 @@ fn wanted_of<'a>(
     role: Role<'a>,
     sight: &Sight,
 ) -> Wanted<'a>
+    ensures { wanted_in result ≡ record { one = (role_in role.entry).one; grouped = trees.is_listed (out-Query query.now).group; distinct = (out-Query query.now).distinct; kinds = paired_kinds (catalogue catalog.now) (map (trees.shows (catalogue catalog.now)) (out-Query query.now).items) (role_in role.entry).wanted sight.now } }
 {
     Wanted {
         one: role.one,
@@ -98,6 +103,7 @@ fn paired<'a>(
     wanted: Option<&'a [Kind<'a>]>,
     sight: &Sight,
 ) -> Option<&'a [Kind<'a>]>
+    ensures { lent_kinds result ≡ paired_kinds (catalogue catalog.now) (map (trees.shows (catalogue catalog.now)) items.now) (lent_kinds wanted) sight.now }
 {
     match wanted {
         None => None,
@@ -113,6 +119,7 @@ fn paired<'a>(
 
 /// Whether the query has groups: by GROUP BY, HAVING or an aggregate in its select list or ORDER BY (group-by-clause).
 fn has_groups(query: &Query, role: Role<'_>) -> bool
+    ensures { (C : scopes.Catalogue) → result ≡ trees.has_groups (query_in C query.now) (role_in role.entry) }
 {
     !query.group.is_empty() || query.having.is_some() || role.total || items_have_total(query.items.as_slice())
 }
@@ -125,6 +132,7 @@ pub fn groups_of<'a>(
     sight: &'a Sight,
     outer: &'a [GroupBy<'a>],
 ) -> Result<Listing<GroupBy<'a>>, NoMemory>
+    ensures { IfOk result (λ groups. (C : scopes.Catalogue) → map (group_in C) groups ≡ (if trees.has_groups (query_in C query.now) (role_in role.entry) then record { level = sight.now.level; columns = flat_map (λ c. scopes.spots (scopes.resolve C sight.now.seen c)) (out-Query query.now).group } ∷ map (group_in C) outer.now else map (group_in C) outer.now)) }
 {
     let mut groups = Listing::empty(alloc);
     if has_groups(query, role) {
@@ -155,6 +163,7 @@ fn group_typed(catalog: &Catalog, columns: &[Column], place: Place<'_>, number: 
 }
 
 fn group_column_typed(catalog: &Catalog, column: &Column, place: Place<'_>, at: u32) -> Result<u32, Stop>
+    ensures { Goes result (expressions.kind_found (place_in (catalogue catalog.now) place.entry) at (scopes.resolve (catalogue catalog.now) (place_in (catalogue catalog.now) place.entry).sight.seen column.now) >>= trees.no_label at) }
 {
     let (kind, n) = column_kind(catalog, column, place, at)?;
     if is_label(kind) {
@@ -166,8 +175,9 @@ fn group_column_typed(catalog: &Catalog, column: &Column, place: Place<'_>, at: 
 
 /// The ON conditions of FROM.
 #[cycle(typing)]
+#[tactic(auto, using(crate::proofs::Steps::stops_then))]
 fn chains_typed(catalog: &Catalog, alloc: Global, chains: &[Chain], place: Place<'_>, query: &Sight, number: u32) -> Result<u32, Stop>
-    ensures { (all : List Name) → query.now.around ≡ all ++ place.entry.sight.now.around → Goes result (lists.chains_typed (place_in (catalogue catalog.now) place.entry) all (map (chain_of (catalogue catalog.now)) chains.now) number) }
+    ensures { (all : List (List ℕ)) → query.now.around ≡ all ++ place.entry.sight.now.around → Goes result (lists.chains_typed (place_in (catalogue catalog.now) place.entry) all (map (chain_of (catalogue catalog.now)) chains.now) number) }
 {
     let mut n = number;
     for chain in chains {
@@ -178,7 +188,9 @@ fn chains_typed(catalog: &Catalog, alloc: Global, chains: &[Chain], place: Place
 
 /// The ON conditions of a chain.
 #[cycle(typing)]
+#[tactic(auto, using(crate::proofs::Steps::stops_then))]
 fn joins_typed(catalog: &Catalog, alloc: Global, chain: &Chain, place: Place<'_>, query: &Sight, number: u32) -> Result<u32, Stop>
+    ensures { (all : List (List ℕ)) → query.now.around ≡ all ++ place.entry.sight.now.around → Goes result (lists.joins_typed (place_in (catalogue catalog.now) place.entry) all (chain.now.first ∷ []) (map (trees.joins (catalogue catalog.now)) chain.now.joins) number) }
 {
     let mut tabs = Listing::empty(alloc);
     tabs.push(chain.first.copy()?)?;
@@ -192,7 +204,9 @@ fn joins_typed(catalog: &Catalog, alloc: Global, chain: &Chain, place: Place<'_>
 
 /// The ON condition of a join, in a chain whose tables up to its own are these. It has no arithmetic and no subquery (joined-table).
 #[cycle(typing)]
+#[tactic(auto, using(crate::proofs::Steps::stops_then))]
 fn join_typed(catalog: &Catalog, alloc: Global, join: &Join, place: Place<'_>, query: &Sight, tabs: &[Tab], at: u32) -> Result<u32, Stop>
+    ensures { (all : List (List ℕ)) → query.now.around ≡ all ++ place.entry.sight.now.around → Goes result ((trees.joins (catalogue catalog.now) join.now).typed (places.on_place (place_in (catalogue catalog.now) place.entry) all tabs.now) at) }
 {
     match join {
         Join::Inner(_, cond) | Join::Left(_, cond) => {

@@ -1,18 +1,23 @@
 -- The typing of parts that stand in lists, opened by one node. Only contracts of private functions cite these.
+use Rattle.std.specs.Option.{option_map}
 use Rattle.std.specs.Prelude.{ℕ, Bool, true, ◌&&◌, List, [], ◌∷◌, ◌++◌, map}
 use Rattle.lb_tree.specs.declared.query.Tab.{Tab}
 use Rattle.lb_tree.specs.declared.query.Arm.{Arm}
 use Rattle.lb_tree.specs.declared.query.Chain.{Chain}
 use Rattle.lb_tree.specs.declared.query.Choice.{Choice}
+use Rattle.lb_tree.specs.declared.query.Query.{Query}
 use Rattle.lb_tree.specs.declared.query.Signed.{Signed}
+use Rattle.lb_tree.specs.declared.query.Cond.TheOpen as layers
+use Rattle.lb_tree.specs.declared.query.Cond.TheViews.{out-Query}
+use Rattle.lb_tree.specs.Folds.{Layer}
 use Rattle.lb_names.specs.Sights.{Name, Sight, inside_on}
 use Rattle.lb_names.specs.Marks.{JoinMarks, ChainMarks}
 use Rattle.lb_names.specs.Scopes.{Catalogue}
 use Rattle.lb_names.specs.Passes.{all_own}
-use Rattle.lb_names.specs.Carriers.{Means, Arms, Chains, Choices}
+use Rattle.lb_names.specs.Carriers.{Means, Arms, Chains, Choices, typing}
 use Rattle.lb_names.specs.Expressions.{arm_step, choice_step}
 use Rattle.lb_names.specs.SelectLists.{chain_step}
-use Rattle.lb_names.specs.Typing.{says, means, joins}
+use Rattle.lb_names.specs.Typing.{says, means, shows, joins}
 
 module _ (C : Catalogue) where
   -- of a part of a sum
@@ -30,6 +35,10 @@ module _ (C : Catalogue) where
   -- of a chain
   abbrev pub chain_of : Chain → Chains
   chain_of x = chain_step (record { first = x.first; joins = map (joins C) x.joins })
+
+  -- of the parts of a query
+  abbrev pub query_in : Query → Layer typing layers.Query-F
+  query_in x = record { distinct = (out-Query x).distinct; items = map (shows C) (out-Query x).items; from = map chain_of (out-Query x).from; filter = option_map (says C) (out-Query x).filter; group = (out-Query x).group; having = option_map (says C) (out-Query x).having }
 
 -- all columns in these ON conditions belong to the query of that level
 abbrev pub own_joins : Catalogue → ℕ → Sight → List Name → List Tab → List JoinMarks → Bool

@@ -23,11 +23,17 @@ pub fn expr_has_total(expr: &Expr) -> bool
         Expr::Product(parts) => exprs_have_total(parts.as_slice()),
         Expr::Case(arms, otherwise) => arms_have_total(arms.as_slice()) || maybe_has_total(otherwise),
         Expr::Match(operand, choices, otherwise) => {
-            expr_has_total(operand.get()) || choices_have_total(choices.as_slice()) || maybe_has_total(otherwise)
+            if expr_has_total(operand.get()) {
+                return true;
+            }
+            choices_have_total(choices.as_slice()) || maybe_has_total(otherwise)
         }
         Expr::Aggregate(_, _) => true,
         Expr::Substr(text, from, length) => {
-            expr_has_total(text.get()) || expr_has_total(from.get()) || maybe_has_total(length)
+            if expr_has_total(text.get()) {
+                return true;
+            }
+            expr_has_total(from.get()) || maybe_has_total(length)
         }
         Expr::Apply(_, to) => expr_has_total(to.get()),
         Expr::Coalesce(parts) => exprs_have_total(parts.as_slice()),

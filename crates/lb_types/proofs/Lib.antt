@@ -1,0 +1,4 @@
+pub mod Kinds
+pub mod Outputs
+pub mod Queries
+pub mod Steps
