@@ -77,12 +77,3 @@ module _ (C : Catalogue) where
 
   pub typed_cross : (a : Tab) (P : Place) (at : ℕ) → (joins C (join_forms.Cross a)).typed P at ≡ Ok (tt, at)
   typed_cross a P at = ap (λ (x : Joins). x.typed P at) (opens.joins_cross C a)
-
-  pub tab_inner : (a : Tab) (b : Cond) → (joins C (join_forms.Inner a b)).marked.tab ≡ a
-  tab_inner a b = ap (λ (x : Joins). x.marked.tab) (opens.joins_inner C a b)
-
-  pub tab_left : (a : Tab) (b : Cond) → (joins C (join_forms.Left a b)).marked.tab ≡ a
-  tab_left a b = ap (λ (x : Joins). x.marked.tab) (opens.joins_left C a b)
-
-  pub tab_cross : (a : Tab) → (joins C (join_forms.Cross a)).marked.tab ≡ a
-  tab_cross a = ap (λ (x : Joins). x.marked.tab) (opens.joins_cross C a)

@@ -3,7 +3,8 @@ use Rattle.std.proofs.Common.{◌≡◌, refl, ap, sym, ◌∙◌, subst, ℕ, O
 use Rattle.lb_names.specs.Typed.{Typed, ◌>>=◌}
 use Rattle.lb_types.specs.declared.stop.Stop.{Stop}
 use Rattle.lb_types.specs.declared.stop.Stop.TheVariants.{Broken, NoMemory}
-use Rattle.lb_types.specs.Given.{Stops}
+use Rattle.std.specs.Prelude.{Result}
+use Rattle.lb_types.specs.Given.{Stops, Gives, Goes}
 
 -- what stopped the first part stops the whole
 pub stops_then : {A B : Type 0} (s : Stop) (out : Typed A) (f : A × ℕ → Typed B) → Stops s out → Stops s (out >>= f)
@@ -22,3 +23,11 @@ onto out first f x h k = h ∙ ap (λ y. y >>= f) k
 -- the whole that stops at its first part
 pub stops_at : {A B : Type 0} (s : Stop) (out : Typed B) (first : Typed A) (f : A × ℕ → Typed B) → out ≡ (first >>= f) → Stops s first → Stops s out
 stops_at s out first f h k = subst (Stops s) (sym h) (stops_then s first f k)
+
+-- what comes after the first part is the whole
+pub gives_onto : {A B D : Type 0} (see : D → B) (r : Result (D × ℕ) Stop) (out : Typed B) (first : Typed A) (f : A × ℕ → Typed B) (x : A × ℕ) → out ≡ (first >>= f) → first ≡ Ok x → Gives see r (f x) → Gives see r out
+gives_onto see r out first f x h k = subst (Gives see r) (sym (onto out first f x h k))
+
+-- the same for what has no kind
+pub goes_onto : {A : Type 0} (r : Result ℕ Stop) (out : Typed (Unit {0})) (first : Typed A) (f : A × ℕ → Typed (Unit {0})) (x : A × ℕ) → out ≡ (first >>= f) → first ≡ Ok x → Goes r (f x) → Goes r out
+goes_onto r out first f x h k = subst (Goes r) (sym (onto out first f x h k))

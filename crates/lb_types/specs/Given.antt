@@ -1,17 +1,20 @@
 -- What the code of typing is given and what it gives, as the definitions see it. Only contracts of private functions cite these.
-use Rattle.std.specs.Prelude.{ℕ, ◌≡◌, Bool, true, if◌then◌else◌, List, map, Option, None, Some, option_map, Result, Ok, Err}
+use Rattle.std.specs.Prelude.{ℕ, ◌-◌, nat_le, ◌≡◌, Bool, true, if◌then◌else◌, List, map, Option, None, Some, option_map, Result, Ok, Err}
 use Rattle.std.specs.List.{filter, flat_map}
+use Rattle.std.specs.Borrow.{Bor}
 use Rattle.std.specs.Str.{bytes_eq}
+use Rattle.lb_tree.specs.declared.query.Column.{Column}
 use Rattle.lb_names.specs.declared.place.Seen.{Seen}
 use Rattle.lb_names.specs.declared.place.Group.{Group}
 use Rattle.lb_names.specs.Sights.{Name, Sight, correlation}
 use Rattle.lb_names.specs.Kinds as kinds
 use Rattle.lb_names.specs.Scopes.{Catalogue, resolve, spots}
-use Rattle.lb_names.specs.Typed.{Typed}
+use Rattle.lb_names.specs.Typed.{Typed, ◌>>=◌}
+use Rattle.lb_names.specs.Expressions.{kind_found}
 use Rattle.lb_names.specs.Places as places
 use Rattle.lb_names.specs.Carriers as carriers
 use Rattle.lb_names.specs.SelectLists.{widths}
-use Rattle.lb_names.specs.Typing.{is_width}
+use Rattle.lb_names.specs.Typing.{is_width, no_label}
 use Rattle.lb_types.specs.declared.kind.Kind.{Kind}
 use Rattle.lb_types.specs.declared.kind.Kind.TheVariants as lent
 use Rattle.lb_types.specs.declared.kind.Common.{Common}
@@ -62,7 +65,7 @@ module _ (C : Catalogue) where
   place_in P = record { sight = P.sight.now; groups = map group_in P.groups.now; subqueries = P.subqueries; aggregates = P.aggregates; within = P.within; stored = P.stored }
 
 -- the kinds that are lent, where some are
-abbrev pub lent_kinds : Option (Ref (List Kind)) → Option (List kinds.Kind)
+abbrev pub lent_kinds : Option (Bor (List Kind)) → Option (List kinds.Kind)
 lent_kinds None = None
 lent_kinds (Some ks) = Some (kinds_in ks.now)
 
@@ -82,6 +85,14 @@ wanted_in W = record { one = W.one; grouped = W.grouped; distinct = W.distinct; 
 -- outputs are paired with the columns that take them only where there are as many
 abbrev pub paired_kinds : Catalogue → List carriers.Shows → Option (List kinds.Kind) → Sight → Option (List kinds.Kind)
 paired_kinds C items wanted v = if is_width wanted (widths items v.own) then wanted else None
+
+-- a column of GROUP BY is no label
+abbrev pub group_column : Catalogue → places.Place → Column → ℕ → Typed (Unit {0})
+group_column C P c at = kind_found P at (resolve C P.sight.seen c) >>= no_label at
+
+-- what is left of a number after another one is taken from it
+abbrev pub left : ℕ → ℕ → Option ℕ
+left n taken = if nat_le taken n then Some (n - taken) else None
 
 -- ---- results
 

@@ -2,7 +2,7 @@
 ghost use Rattle.std.specs.Prelude.{◌≡◌, map, option_map};
 ghost use Rattle.lb_names.specs.Carriers as carriers;
 ghost use Rattle.lb_names.specs.Conditions as conditions;
-ghost use Rattle.lb_names.specs.Parts as parts;
+ghost use Rattle.lb_names.specs.Parts as part_rules;
 ghost use Rattle.lb_names.specs.Typing as trees;
 ghost use Rattle.lb_scope.specs.Found.{catalogue};
 ghost use Rattle.lb_types.specs.Given.{Goes, kind_in, kinds_in, place_in, role_in};
@@ -20,7 +20,7 @@ use std::alloc::Global;
 
 /// The number after the last part of a condition.
 #[cycle(typing)]
-#[tactic(auto, using(crate::proofs::Kinds::typed_or, crate::proofs::Kinds::typed_and, crate::proofs::Kinds::typed_not, crate::proofs::Kinds::typed_exists, crate::proofs::Kinds::typed_compare, crate::proofs::Kinds::typed_comparequery, crate::proofs::Kinds::typed_isnull, crate::proofs::Kinds::typed_inquery, crate::proofs::Kinds::typed_inlist, crate::proofs::Kinds::typed_between, crate::proofs::Steps::stops_then))]
+#[tactic(auto, using(crate::proofs::Forms::typed_or, crate::proofs::Forms::typed_and, crate::proofs::Forms::typed_not, crate::proofs::Forms::typed_exists, crate::proofs::Forms::typed_compare, crate::proofs::Forms::typed_comparequery, crate::proofs::Forms::typed_isnull, crate::proofs::Forms::typed_inquery, crate::proofs::Forms::typed_inlist, crate::proofs::Forms::typed_between, crate::proofs::Steps::stops_then))]
 pub fn typed(
     catalog: &Catalog,
     alloc: Global,
@@ -103,7 +103,7 @@ fn all_typed(
     place: Place<'_>,
     number: u32,
 ) -> Result<u32, Stop>
-    ensures { Goes result (parts.all_typed (map (trees.says (catalogue catalog.now)) conds.now) (place_in (catalogue catalog.now) place.entry) number) }
+    ensures { Goes result (part_rules.all_typed (map (trees.says (catalogue catalog.now)) conds.now) (place_in (catalogue catalog.now) place.entry) number) }
 {
     let mut n = number;
     for cond in conds {

@@ -3,7 +3,7 @@
 ghost use Rattle.std.specs.Prelude.{◌≡◌, map, option_map};
 ghost use Rattle.lb_names.specs.Expressions as expressions;
 ghost use Rattle.lb_names.specs.Kinds as kinds;
-ghost use Rattle.lb_names.specs.Parts as parts;
+ghost use Rattle.lb_names.specs.Parts as part_rules;
 ghost use Rattle.lb_names.specs.Typing as trees;
 ghost use Rattle.lb_scope.specs.Found.{catalogue};
 ghost use Rattle.lb_types.specs.Given.{Gives, common_in, commons_in, kind_in, pair_in, place_in};
@@ -24,7 +24,7 @@ use std::alloc::Global;
 
 /// The kind of an expression, and the number after its last part.
 #[cycle(typing)]
-#[tactic(auto, using(crate::proofs::Kinds::kind_atom, crate::proofs::Kinds::kind_sum, crate::proofs::Kinds::kind_concat, crate::proofs::Kinds::kind_product, crate::proofs::Kinds::kind_case, crate::proofs::Kinds::kind_match, crate::proofs::Kinds::kind_aggregate, crate::proofs::Kinds::kind_substr, crate::proofs::Kinds::kind_apply, crate::proofs::Kinds::kind_coalesce, crate::proofs::Steps::stops_then))]
+#[tactic(auto, using(crate::proofs::Forms::kind_atom, crate::proofs::Forms::kind_sum, crate::proofs::Forms::kind_concat, crate::proofs::Forms::kind_product, crate::proofs::Forms::kind_case, crate::proofs::Forms::kind_match, crate::proofs::Forms::kind_aggregate, crate::proofs::Forms::kind_substr, crate::proofs::Forms::kind_apply, crate::proofs::Forms::kind_coalesce, crate::proofs::Steps::stops_then))]
 pub fn kind_of<'a>(
     catalog: &'a Catalog,
     alloc: Global,
@@ -90,7 +90,7 @@ fn aggregate_kind<'a>(
     at: u32,
     found: (Kind<'a>, u32),
 ) -> Result<(Kind<'a>, u32), Stop>
-    ensures { Gives kind_in result (expressions.aggregate_kind (catalogue catalog.now) aggregate (trees.means (catalogue catalog.now) of.now) (place_in (catalogue catalog.now) place.entry) at (kind_in found.0, found.1)) }
+    ensures { Gives kind_in result (expressions.aggregate_kind (catalogue catalog.now) aggregate (trees.means (catalogue catalog.now) of.now) (place_in (catalogue catalog.now) place.entry) at (kind_in found.entry.0, found.entry.1)) }
 {
     if !place.aggregates {
         return Err(Stop::Broken(at));
@@ -112,7 +112,7 @@ pub fn kind_with<'a>(
     expr: &'a Expr,
     place: Place<'_>,
 ) -> Result<(Common<'a>, u32), Stop>
-    ensures { Gives common_in result (parts.kind_with (common_in so_far.0) (trees.means (catalogue catalog.now) expr.now) (place_in (catalogue catalog.now) place.entry) so_far.1) }
+    ensures { Gives common_in result (part_rules.kind_with (common_in so_far.entry.0) (trees.means (catalogue catalog.now) expr.now) (place_in (catalogue catalog.now) place.entry) so_far.entry.1) }
 {
     let (kind, n) = kind_of(catalog, alloc, expr, place, so_far.1)?;
     Ok((with_kind(so_far.0, kind), n))
@@ -128,7 +128,7 @@ fn kind_of_any<'a>(
     expr: &'a Option<Boxed<Expr>>,
     place: Place<'_>,
 ) -> Result<(Common<'a>, u32), Stop>
-    ensures { Gives common_in result (parts.kind_of_any (common_in so_far.0) (option_map (trees.means (catalogue catalog.now)) expr.now) (place_in (catalogue catalog.now) place.entry) so_far.1) }
+    ensures { Gives common_in result (part_rules.kind_of_any (common_in so_far.entry.0) (option_map (trees.means (catalogue catalog.now)) expr.now) (place_in (catalogue catalog.now) place.entry) so_far.entry.1) }
 {
     match expr {
         None => Ok(so_far),
@@ -147,7 +147,7 @@ pub fn kind_of_all<'a>(
     place: Place<'_>,
     number: u32,
 ) -> Result<(Common<'a>, u32), Stop>
-    ensures { Gives common_in result (parts.kind_of_all (kinds.one (kind_in first)) (map (trees.means (catalogue catalog.now)) exprs.now) (place_in (catalogue catalog.now) place.entry) number) }
+    ensures { Gives common_in result (part_rules.kind_of_all (kinds.one (kind_in first.entry)) (map (trees.means (catalogue catalog.now)) exprs.now) (place_in (catalogue catalog.now) place.entry) number) }
 {
     let mut so_far = Common::One(first);
     let mut n = number;
@@ -169,7 +169,7 @@ fn kind_of_parts<'a>(
     place: Place<'_>,
     number: u32,
 ) -> Result<(Common<'a>, u32), Stop>
-    ensures { Gives common_in result (parts.kind_of_all (kinds.one kinds.integer) (map (part_of (catalogue catalog.now)) parts.now) (place_in (catalogue catalog.now) place.entry) number) }
+    ensures { Gives common_in result (part_rules.kind_of_all (kinds.one kinds.integer) (map (part_of (catalogue catalog.now)) parts.now) (place_in (catalogue catalog.now) place.entry) number) }
 {
     let mut so_far = Common::One(Kind::Integer);
     let mut n = number;
@@ -191,7 +191,7 @@ fn kind_of_arm<'a>(
     place: Place<'_>,
     number: u32,
 ) -> Result<(Kind<'a>, u32), Stop>
-    ensures { Gives kind_in result (parts.kind_of_arm (arm_of (catalogue catalog.now) arm.now) (place_in (catalogue catalog.now) place.entry) number) }
+    ensures { Gives kind_in result (part_rules.kind_of_arm (arm_of (catalogue catalog.now) arm.now) (place_in (catalogue catalog.now) place.entry) number) }
 {
     let n = typed(catalog, alloc, &arm.when, place, number)?;
     kind_of(catalog, alloc, &arm.result, place, n)
@@ -207,7 +207,7 @@ fn kind_of_arms<'a>(
     place: Place<'_>,
     number: u32,
 ) -> Result<(Common<'a>, u32), Stop>
-    ensures { Gives common_in result (parts.kind_of_arms (kinds.one kinds.null) (map (arm_of (catalogue catalog.now)) arms.now) (place_in (catalogue catalog.now) place.entry) number) }
+    ensures { Gives common_in result (part_rules.kind_of_arms (kinds.one kinds.null) (map (arm_of (catalogue catalog.now)) arms.now) (place_in (catalogue catalog.now) place.entry) number) }
 {
     let mut so_far = Common::One(Kind::Null);
     let mut n = number;
@@ -229,7 +229,7 @@ fn kinds_of_choice<'a>(
     place: Place<'_>,
     number: u32,
 ) -> Result<((Kind<'a>, Kind<'a>), u32), Stop>
-    ensures { Gives pair_in result (parts.kinds_of_choice (choice_of (catalogue catalog.now) choice.now) (place_in (catalogue catalog.now) place.entry) number) }
+    ensures { Gives pair_in result (part_rules.kinds_of_choice (choice_of (catalogue catalog.now) choice.now) (place_in (catalogue catalog.now) place.entry) number) }
 {
     let (when, n) = kind_of(catalog, alloc, &choice.when, place, number)?;
     let (result, n) = kind_of(catalog, alloc, &choice.result, place, n)?;
@@ -247,7 +247,7 @@ fn kinds_of_choices<'a>(
     place: Place<'_>,
     number: u32,
 ) -> Result<((Common<'a>, Common<'a>), u32), Stop>
-    ensures { Gives commons_in result (parts.kinds_of_choices (kinds.one (kind_in first)) (kinds.one kinds.null) (map (choice_of (catalogue catalog.now)) choices.now) (place_in (catalogue catalog.now) place.entry) number) }
+    ensures { Gives commons_in result (part_rules.kinds_of_choices (kinds.one (kind_in first.entry)) (kinds.one kinds.null) (map (choice_of (catalogue catalog.now)) choices.now) (place_in (catalogue catalog.now) place.entry) number) }
 {
     let mut operands = Common::One(first);
     let mut results = Common::One(Kind::Null);

@@ -1,5 +1,8 @@
 // The outputs of select lists.
-ghost use Rattle.std.specs.Prelude.{◌≡◌, ◌++◌, map, length, OnOk, IfOk, option_map, filter};
+ghost use Rattle.std.specs.Prelude.{◌≡◌, ◌==◌, ◌++◌, ◌∷◌, [], map, length, drop, IfOk, option_map};
+ghost use Rattle.std.specs.List.{filter, list_any};
+ghost use Rattle.lb_names.specs.Kinds as kind_rules;
+ghost use Rattle.lb_names.specs.Typed as typed;
 ghost use Rattle.std.specs.Option.{option_copied};
 ghost use Rattle.lb_alter.specs.Naming.{field_of};
 ghost use Rattle.lb_names.specs.Places as places;
@@ -7,7 +10,7 @@ ghost use Rattle.lb_names.specs.Scopes as scopes;
 ghost use Rattle.lb_names.specs.SelectLists as lists;
 ghost use Rattle.lb_names.specs.Typing as trees;
 ghost use Rattle.lb_scope.specs.Found.{catalogue};
-ghost use Rattle.lb_types.specs.Given.{Gives, is_starred, kind_in, kinds_in, lent_kinds, place_in, wanted_in};
+ghost use Rattle.lb_types.specs.Given.{Gives, is_starred, kind_in, kinds_in, left, lent_kinds, place_in, wanted_in};
 
 use crate::exprs::kind_of;
 use crate::kind::{Kind, is_label, kind_of_type, takes};
@@ -24,7 +27,7 @@ use std::alloc::Global;
 
 /// Whether `*`, or `x.*` where a name is given, is for that item.
 fn is_for(by: Option<&Name>, item: &Seen) -> bool
-    ensures { result ≡ is_starred (option_copied by) item.now }
+    ensures { result ≡ is_starred (option_copied by.entry) item.now }
 {
     match by {
         None => true,
@@ -34,7 +37,7 @@ fn is_for(by: Option<&Name>, item: &Seen) -> bool
 
 /// Whether all columns of `*` or `x.*` may stand there.
 fn all_free(catalog: &Catalog, own: &[Seen], by: Option<&Name>, place: Place<'_>) -> bool
-    ensures { result ≡ places.all_free (place_in (catalogue catalog.now) place.entry) (catalogue catalog.now) (filter (is_starred (option_copied by)) own.now) }
+    ensures { result ≡ places.all_free (place_in (catalogue catalog.now) place.entry) (catalogue catalog.now) (filter (is_starred (option_copied by.entry)) own.now) }
 {
     for item in own {
         if is_for(by, item) && !all_free_of(catalog, place, item) {
@@ -51,7 +54,7 @@ fn column_kinds<'a>(
     own: &[Seen],
     by: Option<&Name>,
 ) -> Result<Listing<Kind<'a>>, NoMemory>
-    ensures { IfOk result (λ k. kinds_in k ≡ lists.column_kinds (catalogue catalog.now) (filter (is_starred (option_copied by)) own.now)) }
+    ensures { IfOk result (λ k. kinds_in k ≡ lists.column_kinds (catalogue catalog.now) (filter (is_starred (option_copied by.entry)) own.now)) }
 {
     let mut kinds = Listing::empty(alloc);
     for item in own {
@@ -76,7 +79,7 @@ fn kinds_of_columns<'a>(
 }
 
 fn has_label(kinds: &[Kind<'_>]) -> bool
-    ensures { result ≡ list_any kinds.is_label (kinds_in kinds.now) }
+    ensures { result ≡ list_any kind_rules.is_label (kinds_in kinds.now) }
 {
     for kind in kinds {
         if is_label(*kind) {
@@ -87,17 +90,16 @@ fn has_label(kinds: &[Kind<'_>]) -> bool
 }
 
 /// Whether each column takes its output.
+#[tactic(auto, using(crate::proofs::Pairs::takes_at, crate::proofs::Pairs::takes_too_many))]
 fn each_takes(columns: &[Kind<'_>], outputs: &[Kind<'_>]) -> bool
     ensures { result ≡ lists.each_takes (kinds_in columns.now) (kinds_in outputs.now) }
 {
+    if columns.len() < outputs.len() {
+        return false;
+    }
     for (place, output) in outputs.iter().enumerate() {
-        match columns.get(place) {
-            None => return false,
-            Some(column) => {
-                if !takes(*column, *output) {
-                    return false;
-                }
-            }
+        if !takes(columns[place], *output) {
+            return false;
         }
     }
     true
@@ -105,7 +107,7 @@ fn each_takes(columns: &[Kind<'_>], outputs: &[Kind<'_>]) -> bool
 
 /// Whether each output is taken, where columns take them.
 fn are_taken(columns: Option<&[Kind<'_>]>, outputs: &[Kind<'_>]) -> bool
-    ensures { result ≡ lists.taken (lent_kinds columns) (kinds_in outputs.now) }
+    ensures { result ≡ lists.taken (lent_kinds columns.entry) (kinds_in outputs.now) }
 {
     match columns {
         None => true,
@@ -130,7 +132,7 @@ fn star_outputs<'a>(
     place: Place<'_>,
     at: u32,
 ) -> Result<(Listing<Kind<'a>>, u32), Stop>
-    ensures { Gives kinds_in result (lists.star_outputs (catalogue catalog.now) (filter (is_starred (option_copied by)) place.entry.sight.now.own) (wanted_in wanted.entry) (place_in (catalogue catalog.now) place.entry) at) }
+    ensures { Gives kinds_in result (lists.star_outputs (catalogue catalog.now) (filter (is_starred (option_copied by.entry)) place.entry.sight.now.own) (wanted_in wanted.entry) (place_in (catalogue catalog.now) place.entry) at) }
 {
     if place.stored && (wanted.one || wanted.grouped) {
         return Err(Stop::Broken(at));
@@ -153,7 +155,7 @@ fn value_outputs<'a>(
     at: u32,
     found: (Kind<'a>, u32),
 ) -> Result<(Listing<Kind<'a>>, u32), Stop>
-    ensures { Gives kinds_in result (typed.only_if (lists.fit (wanted_in wanted.entry) (kind_in found.0 ∷ [])) at (kind_in found.0 ∷ [], found.1)) }
+    ensures { Gives kinds_in result (typed.only_if (lists.fit (wanted_in wanted.entry) (kind_in found.entry.0 ∷ [])) at (kind_in found.entry.0 ∷ [], found.entry.1)) }
 {
     let mut kinds = Listing::empty(alloc);
     kinds.push(found.0)?;
@@ -166,7 +168,7 @@ fn value_outputs<'a>(
 
 /// The kinds of the outputs of an item.
 #[cycle(typing)]
-#[tactic(auto, using(crate::proofs::Steps::stops_then))]
+#[tactic(auto, using(crate::proofs::Outputs::outputs_everything, crate::proofs::Outputs::outputs_allof, crate::proofs::Outputs::outputs_value, crate::proofs::Steps::stops_then))]
 fn item_outputs<'a>(
     catalog: &'a Catalog,
     alloc: Global,
@@ -199,7 +201,7 @@ fn wanted_after<'a>(wanted: Wanted<'a>, outputs: usize) -> Wanted<'a>
 
 /// The columns that are still to take an output after so many.
 fn rest_of<'a>(columns: Option<&'a [Kind<'a>]>, outputs: usize) -> Option<&'a [Kind<'a>]>
-    ensures { lent_kinds result ≡ lists.rest_of (lent_kinds columns) outputs }
+    ensures { lent_kinds result ≡ lists.rest_of (lent_kinds columns.entry) outputs }
 {
     match columns {
         None => None,
@@ -244,19 +246,26 @@ pub fn outputs_of<'a>(
 
 // ---- how many there are
 
+/// What is left of a number after another one is taken from it, none where it is less.
+fn minus(outputs: usize, taken: usize) -> Option<usize>
+    ensures { result ≡ left outputs taken }
+{
+    if taken <= outputs {
+        Some(outputs - taken)
+    } else {
+        None
+    }
+}
+
 /// How many of so many outputs are left after those of an item, none where the item has more of them.
-fn left_after(
-    catalog: &Catalog,
-    own: &[Seen],
-    item: &Item,
-    outputs: usize,
-) -> Option<usize>
-    ensures { result ≡ minus outputs ((trees.shows (catalogue catalog.now) item.now).width own.now) }
+#[tactic(auto, using(crate::proofs::Outputs::width_everything, crate::proofs::Outputs::width_allof, crate::proofs::Outputs::width_value))]
+fn left_after(catalog: &Catalog, own: &[Seen], item: &Item, outputs: usize) -> Option<usize>
+    ensures { result ≡ left outputs ((trees.shows (catalogue catalog.now) item.now).width own.now) }
 {
     match item {
         Item::Everything => left_after_star(catalog, own, None, outputs),
         Item::AllOf(by) => left_after_star(catalog, own, Some(by), outputs),
-        Item::Value(_, _) => outputs.checked_sub(1),
+        Item::Value(_, _) => minus(outputs, 1),
     }
 }
 
@@ -266,29 +275,39 @@ fn left_after_star(
     by: Option<&Name>,
     outputs: usize,
 ) -> Option<usize>
-    ensures { result ≡ minus outputs (length (lists.column_kinds (catalogue catalog.now) (filter (is_starred (option_copied by)) own.now))) }
+    ensures { result ≡ left outputs (length (lists.column_kinds (catalogue catalog.now) (filter (is_starred (option_copied by.entry)) own.now))) }
 {
-    let mut left = outputs;
+    let mut rest = outputs;
     for item in own {
         if is_for(by, item) {
-            left = left.checked_sub(columns_of(catalog, &item.tab).len())?;
+            match minus(rest, width_of(catalog, item)) {
+                None => return None,
+                Some(less) => rest = less,
+            }
         }
     }
-    Some(left)
+    Some(rest)
+}
+
+/// The number of columns of an item.
+fn width_of(catalog: &Catalog, item: &Seen) -> usize
+    ensures { result ≡ length (lists.kinds_of_item (catalogue catalog.now) item.now) }
+{
+    columns_of(catalog, &item.tab).len()
 }
 
 /// Whether the items have so many outputs.
 pub fn are_so_many(catalog: &Catalog, own: &[Seen], items: &[Item], outputs: usize) -> bool
     ensures { result ≡ (outputs == lists.widths (map (trees.shows (catalogue catalog.now)) items.now) own.now) }
 {
-    let mut left = outputs;
+    let mut rest = outputs;
     for item in items {
-        match left_after(catalog, own, item, left) {
+        match left_after(catalog, own, item, rest) {
             None => return false,
-            Some(rest) => left = rest,
+            Some(less) => rest = less,
         }
     }
-    left == 0
+    rest == 0
 }
 
 /// Whether an aggregate of their own query stands in one of the items.
@@ -303,6 +322,7 @@ pub fn items_have_total(items: &[Item]) -> bool
     false
 }
 
+#[tactic(auto, using(crate::proofs::Outputs::total_everything, crate::proofs::Outputs::total_allof, crate::proofs::Outputs::total_value))]
 fn item_has_total(item: &Item) -> bool
     ensures { (C : scopes.Catalogue) → result ≡ (trees.shows C item.now).total }
 {

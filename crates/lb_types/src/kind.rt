@@ -40,7 +40,7 @@ pub fn kind_of_type(ty: &Ty) -> Kind<'_>
 
 /// Whether there is one.
 pub fn is_one(kind: Common<'_>) -> bool
-    ensures { result ≡ kinds.is_one (common_in kind) }
+    ensures { result ≡ kinds.is_one (common_in kind.entry) }
 {
     match kind {
         Common::One(_) => true,
@@ -50,7 +50,7 @@ pub fn is_one(kind: Common<'_>) -> bool
 
 /// Whether it is a label.
 pub fn is_label(kind: Kind<'_>) -> bool
-    ensures { result ≡ kinds.is_label (kind_in kind) }
+    ensures { result ≡ kinds.is_label (kind_in kind.entry) }
 {
     match kind {
         Kind::Label(_) => true,
@@ -60,7 +60,7 @@ pub fn is_label(kind: Kind<'_>) -> bool
 
 /// The kind that both have, a NULL literal taking the other's.
 pub fn both<'a>(one: Kind<'a>, other: Kind<'a>) -> Common<'a>
-    ensures { common_in result ≡ kinds.both (kind_in one) (kind_in other) }
+    ensures { common_in result ≡ kinds.both (kind_in one.entry) (kind_in other.entry) }
 {
     match one {
         Kind::Null => Common::One(other),
@@ -92,7 +92,7 @@ pub fn both<'a>(one: Kind<'a>, other: Kind<'a>) -> Common<'a>
 
 /// The kind so far with one more.
 pub fn with_kind<'a>(so_far: Common<'a>, kind: Kind<'a>) -> Common<'a>
-    ensures { common_in result ≡ kinds.with_kind (common_in so_far) (kind_in kind) }
+    ensures { common_in result ≡ kinds.with_kind (common_in so_far.entry) (kind_in kind.entry) }
 {
     match so_far {
         Common::Differ => Common::Differ,
@@ -102,7 +102,7 @@ pub fn with_kind<'a>(so_far: Common<'a>, kind: Kind<'a>) -> Common<'a>
 
 /// Whether it is an integer, a text or a date.
 pub fn is_plain(kind: Common<'_>) -> bool
-    ensures { result ≡ kinds.is_plain (common_in kind) }
+    ensures { result ≡ kinds.is_plain (common_in kind.entry) }
 {
     match kind {
         Common::One(Kind::Integer) | Common::One(Kind::Text) | Common::One(Kind::Date) => true,
@@ -121,7 +121,7 @@ fn is_equality(by: Comparison) -> bool
 
 /// Whether values of that kind may be compared so: labels of one policy by `=` and `<>` alone (Assignments and comparisons).
 pub fn is_compared_by(by: Comparison, kind: Common<'_>) -> bool
-    ensures { result ≡ kinds.is_compared_by by (common_in kind) }
+    ensures { result ≡ kinds.is_compared_by by (common_in kind.entry) }
 {
     match kind {
         Common::One(Kind::Label(_)) => is_equality(by),
@@ -131,13 +131,13 @@ pub fn is_compared_by(by: Comparison, kind: Common<'_>) -> bool
 
 /// Whether a column of the first kind takes a value of the second.
 pub fn takes(wanted: Kind<'_>, kind: Kind<'_>) -> bool
-    ensures { result ≡ kinds.takes (kind_in wanted) (kind_in kind) }
+    ensures { result ≡ kinds.takes (kind_in wanted.entry) (kind_in kind.entry) }
 {
     is_one(both(wanted, kind))
 }
 
 fn or_integer(kind: Kind<'_>) -> Common<'_>
-    ensures { common_in result ≡ kinds.or_integer (kind_in kind) }
+    ensures { common_in result ≡ kinds.or_integer (kind_in kind.entry) }
 {
     match kind {
         Kind::Null => Common::One(Kind::Integer),
@@ -148,7 +148,7 @@ fn or_integer(kind: Kind<'_>) -> Common<'_>
 
 /// The kind of an aggregate of an argument of that kind, none where it doesn't take it (Aggregate functions).
 pub fn aggregated(aggregate: Aggregate, kind: Kind<'_>) -> Common<'_>
-    ensures { common_in result ≡ kinds.aggregated aggregate (kind_in kind) }
+    ensures { common_in result ≡ kinds.aggregated aggregate (kind_in kind.entry) }
 {
     match aggregate {
         Aggregate::Count => Common::One(Kind::Integer),

@@ -48,7 +48,7 @@ pub fn column_kind<'a>(
 }
 
 fn is_label_of(policy: &Str, kind: Kind<'_>) -> bool
-    ensures { result ≡ expressions.is_label_of policy.now (kind_in kind) }
+    ensures { result ≡ expressions.is_label_of policy.now (kind_in kind.entry) }
 {
     match kind {
         Kind::Label(another) => policy.as_str() == another,
@@ -98,7 +98,7 @@ pub fn atom_kind<'a>(
 
 /// The node has the kind that its parts have in common.
 pub fn one_of(at: u32, n: u32, kind: Common<'_>) -> Result<(Kind<'_>, u32), Stop>
-    ensures { Gives kind_in result (typed.one_of at n (common_in kind)) }
+    ensures { Gives kind_in result (typed.one_of at n (common_in kind.entry)) }
 {
     match kind {
         Common::One(kind) => Ok((kind, n)),
@@ -108,14 +108,14 @@ pub fn one_of(at: u32, n: u32, kind: Common<'_>) -> Result<(Kind<'_>, u32), Stop
 
 /// The node has the kind that its parts have in common.
 pub fn one_kind(at: u32, found: (Common<'_>, u32)) -> Result<(Kind<'_>, u32), Stop>
-    ensures { Gives kind_in result (expressions.one_kind at (common_in found.0, found.1)) }
+    ensures { Gives kind_in result (expressions.one_kind at (common_in found.entry.0, found.entry.1)) }
 {
     one_of(at, found.1, found.0)
 }
 
 /// The node has the kind that its parts have in common, which is no label's and not NULL's.
 pub fn plain_kind(at: u32, found: (Common<'_>, u32)) -> Result<(Kind<'_>, u32), Stop>
-    ensures { Gives kind_in result (expressions.plain_kind at (common_in found.0, found.1)) }
+    ensures { Gives kind_in result (expressions.plain_kind at (common_in found.entry.0, found.entry.1)) }
 {
     if is_plain(found.0) {
         one_kind(at, found)
@@ -130,7 +130,7 @@ pub fn plain_results<'a>(
     operands: Common<'_>,
     results: (Common<'a>, u32),
 ) -> Result<(Kind<'a>, u32), Stop>
-    ensures { Gives kind_in result (expressions.plain_results at (common_in operands) (common_in results.0, results.1)) }
+    ensures { Gives kind_in result (expressions.plain_results at (common_in operands.entry) (common_in results.entry.0, results.entry.1)) }
 {
     if is_plain(operands) {
         plain_kind(at, results)
@@ -145,7 +145,7 @@ pub fn substr_kind<'a>(
     text: Kind<'_>,
     numbers: (Common<'_>, u32),
 ) -> Result<(Kind<'a>, u32), Stop>
-    ensures { Gives kind_in result (expressions.substr_kind at (kind_in text) (common_in numbers.0, numbers.1)) }
+    ensures { Gives kind_in result (expressions.substr_kind at (kind_in text.entry) (common_in numbers.entry.0, numbers.entry.1)) }
 {
     if takes(Kind::Text, text) && is_one(numbers.0) {
         Ok((Kind::Text, numbers.1))
@@ -160,7 +160,7 @@ pub fn function_kind<'a>(
     at: u32,
     found: (Kind<'_>, u32),
 ) -> Result<(Kind<'a>, u32), Stop>
-    ensures { Gives kind_in result (expressions.function_kind function at (kind_in found.0, found.1)) }
+    ensures { Gives kind_in result (expressions.function_kind function at (kind_in found.entry.0, found.entry.1)) }
 {
     if takes(argument(function), found.0) {
         Ok((Kind::Integer, found.1))
@@ -171,7 +171,7 @@ pub fn function_kind<'a>(
 
 /// The parts have one kind in common, an integer, a text or a date.
 pub fn of_plain(at: u32, found: (Common<'_>, u32)) -> Result<u32, Stop>
-    ensures { Goes result (conditions.of_plain at (common_in found.0, found.1)) }
+    ensures { Goes result (conditions.of_plain at (common_in found.entry.0, found.entry.1)) }
 {
     if is_plain(found.0) {
         Ok(found.1)
@@ -182,7 +182,7 @@ pub fn of_plain(at: u32, found: (Common<'_>, u32)) -> Result<u32, Stop>
 
 /// The parts have a kind in common, and values of it may be compared so.
 pub fn compared(by: Comparison, at: u32, found: (Common<'_>, u32)) -> Result<u32, Stop>
-    ensures { Goes result (conditions.compared by at (common_in found.0, found.1)) }
+    ensures { Goes result (conditions.compared by at (common_in found.entry.0, found.entry.1)) }
 {
     if is_compared_by(by, found.0) {
         Ok(found.1)

@@ -1,5 +1,5 @@
 // Where an expression stands in a statement, and what the place asks of it.
-ghost use Rattle.std.specs.Prelude.{◌≡◌, map, ◌++◌};
+ghost use Rattle.std.specs.Prelude.{◌≡◌, map, true, false};
 ghost use Rattle.std.specs.List.{flat_map, list_any, list_all};
 ghost use Rattle.lb_alter.specs.Naming.{field_of};
 ghost use Rattle.lb_names.specs.Places as places;

@@ -2,15 +2,13 @@
 ghost use Rattle.std.specs.Prelude.{◌≡◌, ◌++◌, ◌∷◌, [], ◌||◌, if◌then◌else◌, IfOk, List, map, option_map, ℕ};
 ghost use Rattle.std.specs.List.{flat_map, list_any};
 ghost use Rattle.lb_tree.specs.declared.query.Cond.TheViews.{out-Query};
-ghost use Rattle.lb_names.specs.Expressions as expressions;
 ghost use Rattle.lb_names.specs.Places as places;
 ghost use Rattle.lb_names.specs.Scopes as scopes;
 ghost use Rattle.lb_names.specs.SelectLists as lists;
 ghost use Rattle.lb_names.specs.Typed as typed;
-ghost use Rattle.lb_names.specs.Typed.{◌>>=◌};
 ghost use Rattle.lb_names.specs.Typing as trees;
 ghost use Rattle.lb_scope.specs.Found.{catalogue};
-ghost use Rattle.lb_types.specs.Given.{Gives, Goes, group_in, kinds_in, lent_kinds, paired_kinds, place_in, role_in, wanted_in};
+ghost use Rattle.lb_types.specs.Given.{Gives, Goes, group_column, group_in, kinds_in, lent_kinds, paired_kinds, place_in, role_in, wanted_in};
 ghost use Rattle.lb_walk.specs.Opened.{chain_of, query_in};
 
 use crate::conds::{maybe_typed, typed};
@@ -21,9 +19,9 @@ use crate::place::{GroupBy, Place, Role, Wanted, filter_place, having_place, sho
 use crate::stop::Stop;
 use lb_base::{Listing, Name, NoMemory};
 use lb_cat::Catalog;
-use lb_scope::{Sight, table_of};
+use lb_scope::Sight;
 use lb_tree::{Chain, Column, Item, Join, Query, Tab};
-use lb_walk::cond_is_sure;
+use lb_walk::{cond_is_sure, table_joined};
 use std::alloc::Global;
 
 /// The kinds of the outputs of a query.
@@ -60,7 +58,7 @@ fn query_fits<'a>(
     at: u32,
     outputs: (Listing<Kind<'a>>, u32),
 ) -> Result<(Listing<Kind<'a>>, u32), Stop>
-    ensures { (C : scopes.Catalogue) → Gives kinds_in result (typed.only_if (trees.query_fits (role_in role.entry) (place_in C place.entry) (kinds_in outputs.0)) at (kinds_in outputs.0, outputs.1)) }
+    ensures { (C : scopes.Catalogue) → Gives kinds_in result (typed.only_if (trees.query_fits (role_in role.entry) (place_in C place.entry) (kinds_in outputs.entry.0)) at (kinds_in outputs.entry.0, outputs.entry.1)) }
 {
     let width = outputs.0.len();
     if (role.subquery && !place.subqueries) || (role.one && width != 1) || !is_width(role.wanted, width) {
@@ -72,7 +70,7 @@ fn query_fits<'a>(
 
 /// Whether there are as many outputs as are wanted.
 fn is_width(wanted: Option<&[Kind<'_>]>, outputs: usize) -> bool
-    ensures { result ≡ trees.is_width (lent_kinds wanted) outputs }
+    ensures { result ≡ trees.is_width (lent_kinds wanted.entry) outputs }
 {
     match wanted {
         None => true,
@@ -103,7 +101,7 @@ fn paired<'a>(
     wanted: Option<&'a [Kind<'a>]>,
     sight: &Sight,
 ) -> Option<&'a [Kind<'a>]>
-    ensures { lent_kinds result ≡ paired_kinds (catalogue catalog.now) (map (trees.shows (catalogue catalog.now)) items.now) (lent_kinds wanted) sight.now }
+    ensures { lent_kinds result ≡ paired_kinds (catalogue catalog.now) (map (trees.shows (catalogue catalog.now)) items.now) (lent_kinds wanted.entry) sight.now }
 {
     match wanted {
         None => None,
@@ -142,7 +140,7 @@ pub fn groups_of<'a>(
 }
 
 fn with_outer<'a>(groups: Listing<GroupBy<'a>>, outer: &'a [GroupBy<'a>]) -> Result<Listing<GroupBy<'a>>, NoMemory>
-    ensures { IfOk result (λ g. g ≡ groups ++ outer.now) }
+    ensures { IfOk result (λ g. g ≡ groups.entry ++ outer.now) }
 {
     let mut all = groups;
     for group in outer {
@@ -163,7 +161,7 @@ fn group_typed(catalog: &Catalog, columns: &[Column], place: Place<'_>, number: 
 }
 
 fn group_column_typed(catalog: &Catalog, column: &Column, place: Place<'_>, at: u32) -> Result<u32, Stop>
-    ensures { Goes result (expressions.kind_found (place_in (catalogue catalog.now) place.entry) at (scopes.resolve (catalogue catalog.now) (place_in (catalogue catalog.now) place.entry).sight.seen column.now) >>= trees.no_label at) }
+    ensures { Goes result (group_column (catalogue catalog.now) (place_in (catalogue catalog.now) place.entry) column.now at) }
 {
     let (kind, n) = column_kind(catalog, column, place, at)?;
     if is_label(kind) {
@@ -196,7 +194,7 @@ fn joins_typed(catalog: &Catalog, alloc: Global, chain: &Chain, place: Place<'_>
     tabs.push(chain.first.copy()?)?;
     let mut n = number;
     for join in chain.joins.as_slice() {
-        tabs.push(table_of(join).copy()?)?;
+        tabs.push(table_joined(join).copy()?)?;
         n = join_typed(catalog, alloc, join, place, query, tabs.as_slice(), n)?;
     }
     Ok(n)
@@ -204,7 +202,7 @@ fn joins_typed(catalog: &Catalog, alloc: Global, chain: &Chain, place: Place<'_>
 
 /// The ON condition of a join, in a chain whose tables up to its own are these. It has no arithmetic and no subquery (joined-table).
 #[cycle(typing)]
-#[tactic(auto, using(crate::proofs::Steps::stops_then))]
+#[tactic(auto, using(crate::proofs::Outputs::typed_inner, crate::proofs::Outputs::typed_left, crate::proofs::Outputs::typed_cross, crate::proofs::Steps::stops_then))]
 fn join_typed(catalog: &Catalog, alloc: Global, join: &Join, place: Place<'_>, query: &Sight, tabs: &[Tab], at: u32) -> Result<u32, Stop>
     ensures { (all : List (List ℕ)) → query.now.around ≡ all ++ place.entry.sight.now.around → Goes result ((trees.joins (catalogue catalog.now) join.now).typed (places.on_place (place_in (catalogue catalog.now) place.entry) all tabs.now) at) }
 {

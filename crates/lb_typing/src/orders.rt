@@ -11,12 +11,13 @@ ghost use Rattle.lb_scope.specs.Found.{catalogue, meaning_in};
 ghost use Rattle.lb_types.specs.Given.{Goes, kind_in, kinds_in, lent_kinds, place_in};
 ghost use Rattle.lb_typing.specs.Given.{Tells, column_in};
 
-use lb_base::{Listing, Name};
+use lb_base::Name;
 use lb_cat::Catalog;
-use lb_scope::{Meaning, Sight, correlation, resolve};
+use lb_same::is_same_expr;
+use lb_scope::{Meaning, Sight, correlation, meant, position, resolve};
 use lb_tree::{Atom, Column, Expr, Item, Query, Select, SortKey};
 use lb_types::{Kind, Place, Role, Stop, groups_of, is_label, kind_of, kinds_of, next, shown_place};
-use lb_walk::{expr_has_total, is_same_expr};
+use lb_walk::expr_has_total;
 use std::alloc::Global;
 
 /// The column, where the expression is a column as a whole.
@@ -26,65 +27,6 @@ fn as_column(expr: &Expr) -> Option<&Column>
     match expr {
         Expr::Atom(Atom::Column(column)) => Some(column),
         _ => None,
-    }
-}
-
-/// The name, where the expression is a bare name as a whole.
-fn bare_name(expr: &Expr) -> Option<&Name>
-    ensures { option_copied result ≡ sorts.bare_name (out-Expr expr.now) }
-{
-    let column = as_column(expr)?;
-    match &column.correlation {
-        None => Some(&column.name),
-        Some(_) => None,
-    }
-}
-
-/// The integer, where the expression is a literal as a whole.
-fn position(expr: &Expr) -> Option<i64>
-    ensures { result ≡ sorts.position expr.now }
-{
-    match expr {
-        Expr::Atom(Atom::Int(n)) => Some(*n),
-        _ => None,
-    }
-}
-
-/// The expression, where the item has that output name.
-fn if_named<'a>(name: &Name, item: &'a Item) -> Option<&'a Expr>
-    ensures { option_copied result ≡ sorts.if_named name.now (out-Item item.now) }
-{
-    match item {
-        Item::Value(expr, Some(output)) => {
-            if name.is(output) {
-                Some(expr)
-            } else {
-                None
-            }
-        }
-        _ => None,
-    }
-}
-
-/// The expression of the first item with that output name.
-fn named<'a>(name: &Name, items: &'a [Item]) -> Option<&'a Expr>
-    ensures { option_copied result ≡ sorts.named name.now items.now }
-{
-    for item in items {
-        if let Some(expr) = if_named(name, item) {
-            return Some(expr);
-        }
-    }
-    None
-}
-
-/// The item's expression for which the key's name stands (order-by-clause).
-fn meant<'a>(items: &'a [Item], key: &Expr) -> Option<&'a Expr>
-    ensures { option_copied result ≡ sorts.meant items.now key.now }
-{
-    match bare_name(key) {
-        None => None,
-        Some(name) => named(name, items),
     }
 }
 
@@ -103,7 +45,7 @@ fn output_at<'a>(place: i64, outputs: &[Kind<'a>]) -> Option<Kind<'a>>
 
 /// Whether it is a column of the query's own items, of those with that correlation name where one is given.
 fn is_own_column(place: Place<'_>, by: Option<&Name>, meaning: Meaning<'_, '_>) -> bool
-    ensures { (C : Catalogue) → result ≡ orders.is_own_column C (place_in C place.entry) (option_copied by) (meaning_in meaning) }
+    ensures { (C : Catalogue) → result ≡ orders.is_own_column C (place_in C place.entry) (option_copied by.entry) (meaning_in meaning.entry) }
 {
     match meaning {
         Meaning::Found(item, _) => {
@@ -118,7 +60,7 @@ fn is_own_column(place: Place<'_>, by: Option<&Name>, meaning: Meaning<'_, '_>) 
 
 /// Whether the expression is a column among those of `*` or `x.*`.
 fn is_in_star(catalog: &Catalog, place: Place<'_>, by: Option<&Name>, expr: &Expr) -> bool
-    ensures { result ≡ orders.is_in_star (catalogue catalog.now) (place_in (catalogue catalog.now) place.entry) (option_copied by) (out-Expr expr.now) }
+    ensures { result ≡ orders.is_in_star (catalogue catalog.now) (place_in (catalogue catalog.now) place.entry) (option_copied by.entry) (out-Expr expr.now) }
 {
     match as_column(expr) {
         Some(column) => is_own_column(place, by, resolve(catalog, place.sight.seen(), column)),
@@ -170,7 +112,7 @@ fn expression_key(
 
 /// A key that stands for an item of that kind is one node.
 fn item_key(at: u32, kind: Kind<'_>) -> Result<u32, Stop>
-    ensures { (C : Catalogue) → Goes result (orders.item_key C at (kind_in kind)) }
+    ensures { (C : Catalogue) → Goes result (orders.item_key C at (kind_in kind.entry)) }
 {
     if is_label(kind) {
         Err(Stop::Broken(at))
@@ -181,7 +123,7 @@ fn item_key(at: u32, kind: Kind<'_>) -> Result<u32, Stop>
 
 /// A key that is an integer stands for an output that is there.
 fn output_key(at: u32, output: Option<Kind<'_>>) -> Result<u32, Stop>
-    ensures { (C : Catalogue) → Goes result (orders.output_key C (option_map kind_in output) at) }
+    ensures { (C : Catalogue) → Goes result (orders.output_key C (option_map kind_in output.entry) at) }
 {
     match output {
         None => Err(Stop::Broken(at)),
@@ -251,7 +193,7 @@ pub fn select_typed(
     select: &Select,
     wanted: Option<&[Kind<'_>]>,
 ) -> Result<u32, Stop>
-    ensures { Tells result (broken (orders.select_typed (catalogue catalog.now) select.now (lent_kinds wanted))) }
+    ensures { Tells result (broken (orders.select_typed (catalogue catalog.now) select.now (lent_kinds wanted.entry))) }
 {
     let nothing = Sight::nothing(alloc);
     let outermost = Place {

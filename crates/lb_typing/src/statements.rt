@@ -130,7 +130,7 @@ fn mask_typed(
 
 /// Whether a mask of the column may have that kind.
 fn mask_takes(column: Option<&ColumnRec>, kind: Kind<'_>) -> bool
-    ensures { (C : Catalogue) → result ≡ statements.mask_takes C (statements.kind_in (option_map field_of (option_copied column))) (kind_in kind) }
+    ensures { (C : Catalogue) → result ≡ statements.mask_takes C (statements.kind_in (option_map field_of (option_copied column.entry))) (kind_in kind.entry) }
 {
     match column {
         None => false,
@@ -275,8 +275,8 @@ fn value_typed(
     place: Place<'_>,
     at: u32,
 ) -> Result<u32, Stop> {
-    let (kind, n) = kind_of(catalog, alloc, value, place, at)?;
-    if takes(column, kind) {
+    let (kind, n) = kind_of(catalog, alloc, value, place.entry, at)?;
+    if takes(column.entry, kind) {
         Ok(n)
     } else {
         Err(Stop::Broken(at))
@@ -287,6 +287,7 @@ fn value_typed(
 
 /// SET, and then WHERE.
 fn update_typed(catalog: &Catalog, alloc: Global, update: &Update) -> Result<u32, Stop>
+    ensures { Tells result (statements.types_refused (catalogue catalog.now) (stmts.Update update.now)) } -> Result<u32, Stop>
     ensures { Tells result (statements.types_refused (catalogue catalog.now) (stmts.Update update.now)) }
 {
     let sight = Sight::over(alloc, &update.target)?;
@@ -321,7 +322,7 @@ fn assignment_typed(
     assignment: &Assignment,
     at: u32,
 ) -> Result<u32, Stop> {
-    let (kind, n) = kind_of(catalog, alloc, &assignment.value, place, at)?;
+    let (kind, n) = kind_of(catalog, alloc, &assignment.value, place.entry, at)?;
     if is_taken_by(column_named(&assignment.column, columns), kind) {
         Ok(n)
     } else {
@@ -331,7 +332,8 @@ fn assignment_typed(
 
 /// Whether the column takes a value of that kind.
 fn is_taken_by(column: Option<&ColumnRec>, kind: Kind<'_>) -> bool
-    ensures { result ≡ statements.is_taken_by (statements.kind_in (option_map field_of (option_copied column))) (kind_in kind) }
+    ensures { result ≡ statements.is_taken_by (statements.kind_in (option_map field_of (option_copied column))) (kind_in kind) } -> bool
+    ensures { result ≡ statements.is_taken_by (statements.kind_in (option_map field_of (option_copied column.entry))) (kind_in kind.entry) }
 {
     match column {
         None => false,

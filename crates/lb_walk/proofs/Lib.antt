@@ -1,2 +1,5 @@
+pub mod Arms
+pub mod Joins
 pub mod Opens
-pub mod Own
+pub mod OwnParts
+pub mod OwnQueries

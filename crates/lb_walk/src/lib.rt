@@ -3,11 +3,9 @@
 #![tactic(auto)]
 
 mod own;
-mod same;
 mod sures;
 mod totals;
 
-pub use own::names_own_columns;
-pub use same::is_same_expr;
+pub use own::{names_own_columns, table_joined};
 pub use sures::{cond_is_sure, expr_is_sure};
 pub use totals::{cond_has_total, expr_has_total};

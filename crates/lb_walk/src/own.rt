@@ -15,7 +15,7 @@ ghost use Rattle.lb_walk.specs.Opened.{arm_of, chain_of, choice_of, own_chains, 
 use lb_base::{Listing, NoMemory};
 use lb_cat::Catalog;
 use lb_names::Seen;
-use lb_scope::{Meaning, Sight, resolve, table_of};
+use lb_scope::{Meaning, Sight, resolve};
 use lb_tree::{Arm, Atom, Chain, Choice, Column, Cond, Expr, Item, Join, Query, Signed, Tab};
 use sqlite_items::Boxed;
 use std::alloc::Global;
@@ -33,6 +33,7 @@ pub fn names_own_columns(
 }
 
 #[cycle(own)]
+#[tactic(auto, using(crate::proofs::Opens::means_atom, crate::proofs::Opens::means_sum, crate::proofs::Opens::means_concat, crate::proofs::Opens::means_product, crate::proofs::Opens::means_case, crate::proofs::Opens::means_match, crate::proofs::Opens::means_aggregate, crate::proofs::Opens::means_substr, crate::proofs::Opens::means_apply, crate::proofs::Opens::means_coalesce, crate::proofs::OwnQueries::split))]
 fn expr_own(
     catalog: &Catalog,
     alloc: Global,
@@ -48,22 +49,29 @@ fn expr_own(
         Expr::Concat(parts) => exprs_own(catalog, alloc, level, parts.as_slice(), sight),
         Expr::Product(parts) => exprs_own(catalog, alloc, level, parts.as_slice(), sight),
         Expr::Case(arms, otherwise) => {
-            let own = arms_own(catalog, alloc, level, arms.as_slice(), sight)?;
-            let others = maybe_own(catalog, alloc, level, otherwise, sight)?;
-            Ok(own && others)
+            if !arms_own(catalog, alloc, level, arms.as_slice(), sight)? {
+                return Ok(false);
+            }
+            maybe_own(catalog, alloc, level, otherwise, sight)
         }
         Expr::Match(operand, choices, otherwise) => {
-            let first = expr_own(catalog, alloc, level, operand.get(), sight)?;
-            let own = choices_own(catalog, alloc, level, choices.as_slice(), sight)?;
-            let others = maybe_own(catalog, alloc, level, otherwise, sight)?;
-            Ok(first && own && others)
+            if !expr_own(catalog, alloc, level, operand.get(), sight)? {
+                return Ok(false);
+            }
+            if !choices_own(catalog, alloc, level, choices.as_slice(), sight)? {
+                return Ok(false);
+            }
+            maybe_own(catalog, alloc, level, otherwise, sight)
         }
         Expr::Aggregate(_, of) => expr_own(catalog, alloc, level, of.get(), sight),
         Expr::Substr(text, from, length) => {
-            let first = expr_own(catalog, alloc, level, text.get(), sight)?;
-            let own = expr_own(catalog, alloc, level, from.get(), sight)?;
-            let others = maybe_own(catalog, alloc, level, length, sight)?;
-            Ok(first && own && others)
+            if !expr_own(catalog, alloc, level, text.get(), sight)? {
+                return Ok(false);
+            }
+            if !expr_own(catalog, alloc, level, from.get(), sight)? {
+                return Ok(false);
+            }
+            maybe_own(catalog, alloc, level, length, sight)
         }
         Expr::Apply(_, to) => expr_own(catalog, alloc, level, to.get(), sight),
         Expr::Coalesce(parts) => exprs_own(catalog, alloc, level, parts.as_slice(), sight),
@@ -99,6 +107,7 @@ fn atom_own(catalog: &Catalog, level: usize, atom: &Atom, seen: &[Seen]) -> bool
 }
 
 #[cycle(own)]
+#[tactic(auto, using(crate::proofs::OwnQueries::split))]
 fn maybe_own(
     catalog: &Catalog,
     alloc: Global,
@@ -115,6 +124,7 @@ fn maybe_own(
 }
 
 #[cycle(own)]
+#[tactic(auto, using(crate::proofs::OwnQueries::split))]
 fn exprs_own(
     catalog: &Catalog,
     alloc: Global,
@@ -133,6 +143,7 @@ fn exprs_own(
 }
 
 #[cycle(own)]
+#[tactic(auto, using(crate::proofs::OwnQueries::split))]
 fn parts_own(
     catalog: &Catalog,
     alloc: Global,
@@ -151,6 +162,7 @@ fn parts_own(
 }
 
 #[cycle(own)]
+#[tactic(auto, using(crate::proofs::OwnQueries::split))]
 fn arm_own(
     catalog: &Catalog,
     alloc: Global,
@@ -160,12 +172,14 @@ fn arm_own(
 ) -> Result<bool, NoMemory>
     ensures { IfOk result (λ own. own ≡ all_own (catalogue catalog.now) level ((arm_of (catalogue catalog.now) arm.now).marks sight.now)) }
 {
-    let when = cond_own(catalog, alloc, level, &arm.when, sight)?;
-    let result = expr_own(catalog, alloc, level, &arm.result, sight)?;
-    Ok(when && result)
+    if !cond_own(catalog, alloc, level, &arm.when, sight)? {
+        return Ok(false);
+    }
+    expr_own(catalog, alloc, level, &arm.result, sight)
 }
 
 #[cycle(own)]
+#[tactic(auto, using(crate::proofs::OwnQueries::split))]
 fn arms_own(
     catalog: &Catalog,
     alloc: Global,
@@ -184,6 +198,7 @@ fn arms_own(
 }
 
 #[cycle(own)]
+#[tactic(auto, using(crate::proofs::OwnQueries::split))]
 fn choice_own(
     catalog: &Catalog,
     alloc: Global,
@@ -193,12 +208,14 @@ fn choice_own(
 ) -> Result<bool, NoMemory>
     ensures { IfOk result (λ own. own ≡ all_own (catalogue catalog.now) level ((choice_of (catalogue catalog.now) choice.now).marks sight.now)) }
 {
-    let when = expr_own(catalog, alloc, level, &choice.when, sight)?;
-    let result = expr_own(catalog, alloc, level, &choice.result, sight)?;
-    Ok(when && result)
+    if !expr_own(catalog, alloc, level, &choice.when, sight)? {
+        return Ok(false);
+    }
+    expr_own(catalog, alloc, level, &choice.result, sight)
 }
 
 #[cycle(own)]
+#[tactic(auto, using(crate::proofs::OwnQueries::split))]
 fn choices_own(
     catalog: &Catalog,
     alloc: Global,
@@ -217,6 +234,7 @@ fn choices_own(
 }
 
 #[cycle(own)]
+#[tactic(auto, using(crate::proofs::Opens::says_or, crate::proofs::Opens::says_and, crate::proofs::Opens::says_not, crate::proofs::Opens::says_exists, crate::proofs::Opens::says_compare, crate::proofs::Opens::says_comparequery, crate::proofs::Opens::says_isnull, crate::proofs::Opens::says_inquery, crate::proofs::Opens::says_inlist, crate::proofs::Opens::says_between, crate::proofs::OwnQueries::split))]
 fn cond_own(
     catalog: &Catalog,
     alloc: Global,
@@ -232,36 +250,44 @@ fn cond_own(
         Cond::Not(part) => cond_own(catalog, alloc, level, part.get(), sight),
         Cond::Exists(query) => query_own(catalog, alloc, level, query.get(), sight),
         Cond::Compare(_, left, right) => {
-            let first = expr_own(catalog, alloc, level, left.get(), sight)?;
-            let second = expr_own(catalog, alloc, level, right.get(), sight)?;
-            Ok(first && second)
+            if !expr_own(catalog, alloc, level, left.get(), sight)? {
+                return Ok(false);
+            }
+            expr_own(catalog, alloc, level, right.get(), sight)
         }
         Cond::CompareQuery(_, left, query) => {
-            let first = expr_own(catalog, alloc, level, left.get(), sight)?;
-            let second = query_own(catalog, alloc, level, query.get(), sight)?;
-            Ok(first && second)
+            if !expr_own(catalog, alloc, level, left.get(), sight)? {
+                return Ok(false);
+            }
+            query_own(catalog, alloc, level, query.get(), sight)
         }
         Cond::IsNull(part) => expr_own(catalog, alloc, level, part.get(), sight),
         Cond::InQuery(part, query) => {
-            let first = expr_own(catalog, alloc, level, part.get(), sight)?;
-            let second = query_own(catalog, alloc, level, query.get(), sight)?;
-            Ok(first && second)
+            if !expr_own(catalog, alloc, level, part.get(), sight)? {
+                return Ok(false);
+            }
+            query_own(catalog, alloc, level, query.get(), sight)
         }
         Cond::InList(part, list) => {
-            let first = expr_own(catalog, alloc, level, part.get(), sight)?;
-            let others = exprs_own(catalog, alloc, level, list.as_slice(), sight)?;
-            Ok(first && others)
+            if !expr_own(catalog, alloc, level, part.get(), sight)? {
+                return Ok(false);
+            }
+            exprs_own(catalog, alloc, level, list.as_slice(), sight)
         }
         Cond::Between(part, low, high) => {
-            let first = expr_own(catalog, alloc, level, part.get(), sight)?;
-            let second = expr_own(catalog, alloc, level, low.get(), sight)?;
-            let third = expr_own(catalog, alloc, level, high.get(), sight)?;
-            Ok(first && second && third)
+            if !expr_own(catalog, alloc, level, part.get(), sight)? {
+                return Ok(false);
+            }
+            if !expr_own(catalog, alloc, level, low.get(), sight)? {
+                return Ok(false);
+            }
+            expr_own(catalog, alloc, level, high.get(), sight)
         }
     }
 }
 
 #[cycle(own)]
+#[tactic(auto, using(crate::proofs::OwnQueries::split))]
 fn conds_own(
     catalog: &Catalog,
     alloc: Global,
@@ -280,6 +306,7 @@ fn conds_own(
 }
 
 #[cycle(own)]
+#[tactic(auto, using(crate::proofs::OwnQueries::split))]
 fn maybe_cond_own(
     catalog: &Catalog,
     alloc: Global,
@@ -296,6 +323,7 @@ fn maybe_cond_own(
 }
 
 #[cycle(own)]
+#[tactic(auto, using(crate::proofs::Opens::shows_everything, crate::proofs::Opens::shows_allof, crate::proofs::Opens::shows_value, crate::proofs::OwnQueries::split))]
 fn item_own(
     catalog: &Catalog,
     alloc: Global,
@@ -312,6 +340,7 @@ fn item_own(
 }
 
 #[cycle(own)]
+#[tactic(auto, using(crate::proofs::OwnQueries::split))]
 fn items_own(
     catalog: &Catalog,
     alloc: Global,
@@ -341,6 +370,7 @@ fn columns_own(catalog: &Catalog, level: usize, columns: &[Column], seen: &[Seen
 }
 
 #[cycle(own)]
+#[tactic(auto, using(crate::proofs::OwnQueries::split))]
 fn query_own(
     catalog: &Catalog,
     alloc: Global,
@@ -351,16 +381,24 @@ fn query_own(
     ensures { IfOk result (λ own. own ≡ all_own (catalogue catalog.now) level ((trees.answers (catalogue catalog.now) query.now).marks sight.now)) }
 {
     let inside = sight.inside(alloc, query.from.as_slice())?;
-    let items = items_own(catalog, alloc, level, query.items.as_slice(), &inside)?;
-    let from = chains_own(catalog, alloc, level, query.from.as_slice(), sight, &inside)?;
-    let filter = maybe_cond_own(catalog, alloc, level, &query.filter, &inside)?;
-    let group = columns_own(catalog, level, query.group.as_slice(), inside.seen());
-    let having = maybe_cond_own(catalog, alloc, level, &query.having, &inside)?;
-    Ok(items && from && filter && group && having)
+    if !items_own(catalog, alloc, level, query.items.as_slice(), &inside)? {
+        return Ok(false);
+    }
+    if !chains_own(catalog, alloc, level, query.from.as_slice(), sight, &inside)? {
+        return Ok(false);
+    }
+    if !maybe_cond_own(catalog, alloc, level, &query.filter, &inside)? {
+        return Ok(false);
+    }
+    if !columns_own(catalog, level, query.group.as_slice(), inside.seen()) {
+        return Ok(false);
+    }
+    maybe_cond_own(catalog, alloc, level, &query.having, &inside)
 }
 
 /// In FROM of a query that stands here, of which `query` is what its clauses see.
 #[cycle(own)]
+#[tactic(auto, using(crate::proofs::OwnQueries::split))]
 fn chains_own(
     catalog: &Catalog,
     alloc: Global,
@@ -380,6 +418,7 @@ fn chains_own(
 }
 
 #[cycle(own)]
+#[tactic(auto, using(crate::proofs::OwnQueries::split))]
 fn joins_own(
     catalog: &Catalog,
     alloc: Global,
@@ -393,7 +432,7 @@ fn joins_own(
     let mut tabs = Listing::empty(alloc);
     tabs.push(chain.first.copy()?)?;
     for join in chain.joins.as_slice() {
-        tabs.push(table_of(join).copy()?)?;
+        tabs.push(table_joined(join).copy()?)?;
         if !join_own(catalog, alloc, level, join, outer, query, tabs.as_slice())? {
             return Ok(false);
         }
@@ -401,7 +440,19 @@ fn joins_own(
     Ok(true)
 }
 
+/// The table of a join.
+#[tactic(auto, using(crate::proofs::Joins::tab_inner, crate::proofs::Joins::tab_left, crate::proofs::Joins::tab_cross))]
+pub fn table_joined(join: &Join) -> &Tab
+    ensures { (C : scopes.Catalogue) → result.now ≡ (trees.joins C join.now).marked.tab }
+{
+    match join {
+        Join::Inner(tab, _) | Join::Left(tab, _) => tab,
+        Join::Cross(tab) => tab,
+    }
+}
+
 #[cycle(own)]
+#[tactic(auto, using(crate::proofs::Opens::joins_inner, crate::proofs::Opens::joins_left, crate::proofs::Opens::joins_cross, crate::proofs::OwnQueries::split))]
 fn join_own(
     catalog: &Catalog,
     alloc: Global,

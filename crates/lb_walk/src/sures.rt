@@ -23,17 +23,19 @@ pub fn expr_is_sure(expr: &Expr) -> bool
         Expr::Product(_) => false,
         Expr::Case(arms, otherwise) => arms_are_sure(arms.as_slice()) && maybe_is_sure(otherwise),
         Expr::Match(operand, choices, otherwise) => {
-            if !expr_is_sure(operand.get()) {
-                return false;
+            if expr_is_sure(operand.get()) {
+                choices_are_sure(choices.as_slice()) && maybe_is_sure(otherwise)
+            } else {
+                false
             }
-            choices_are_sure(choices.as_slice()) && maybe_is_sure(otherwise)
         }
         Expr::Aggregate(_, of) => expr_is_sure(of.get()),
         Expr::Substr(text, from, length) => {
-            if !expr_is_sure(text.get()) {
-                return false;
+            if expr_is_sure(text.get()) {
+                expr_is_sure(from.get()) && maybe_is_sure(length)
+            } else {
+                false
             }
-            expr_is_sure(from.get()) && maybe_is_sure(length)
         }
         Expr::Apply(_, to) => expr_is_sure(to.get()),
         Expr::Coalesce(parts) => exprs_are_sure(parts.as_slice()),

@@ -31,7 +31,7 @@ module _ (C : Catalogue) where
   tables_are cs = ap (λ chains. tables_of chains) (chains_path cs)
 
   module _ (level : ℕ) where
-    split : (xs ys : Marks) → all_own C level (xs ++ ys) ≡ (all_own C level xs && all_own C level ys)
+    pub split : (xs ys : Marks) → all_own C level (xs ++ ys) ≡ (all_own C level xs && all_own C level ys)
     split xs ys = list_all-append (is_own C level) xs ys
 
     joins_are : (outer : Sight) (all before : List Name) (tabs : List Tab) (js : List JoinMarks) → all_own C level (joins_marks outer all before tabs js) ≡ own_joins C level outer all tabs js
@@ -75,3 +75,12 @@ module _ (C : Catalogue) where
         five i f w g h ∙ (λ k. fi k && (ff k && (fw k && (fg k && fh k))))
         ∙ sym (parts (of_each (λ (m : Shows). m.marks) (map (shows C) (out-Query x).items) (inside v tabs)) (chains_marks v (calls_of tabs) [] (map chain_marked (map (chain_of C) (out-Query x).from))) (of_any (λ (m : Says). m.marks) (option_map (says C) (out-Query x).filter) (inside v tabs)) (map (column (inside v tabs).seen) (out-Query x).group) (of_any (λ (m : Says). m.marks) (option_map (says C) (out-Query x).having) (inside v tabs)))
         ∙ sym (ap (λ (a : _). all_own C level (a.marks v)) (answers_out C x))
+
+    -- the joins after the first one, and none where that one isn't own
+    pub join_step : (outer : Sight) (all : List Name) (tabs more : List Tab) (j : JoinMarks) (js : List JoinMarks) → more ≡ tabs ++ j.tab ∷ [] → true ≡ all_own C level (j.on (inside_on outer all more))
+        → own_joins C level outer all tabs (j ∷ js) ≡ own_joins C level outer all more js
+    join_step outer all tabs more j js h k = (λ i. all_own C level (j.on (inside_on outer all (sym h i))) && own_joins C level outer all (sym h i) js) ∙ ap (λ b. b && own_joins C level outer all more js) (sym k)
+
+    pub join_stop : (outer : Sight) (all : List Name) (tabs more : List Tab) (j : JoinMarks) (js : List JoinMarks) → more ≡ tabs ++ j.tab ∷ [] → false ≡ all_own C level (j.on (inside_on outer all more))
+        → own_joins C level outer all tabs (j ∷ js) ≡ false
+    join_stop outer all tabs more j js h k = (λ i. all_own C level (j.on (inside_on outer all (sym h i))) && own_joins C level outer all (sym h i) js) ∙ ap (λ b. b && own_joins C level outer all more js) (sym k)

@@ -9,13 +9,22 @@ use lb_base::{Name, Str};
 use lb_cat::Catalog;
 use lb_names::Seen;
 use lb_scope::is_same_column;
-use lb_tree::{Arm, Atom, Choice, Cond, Expr, Signed};
+use lb_tree::{Aggregate, Arm, Atom, Choice, Comparison, Cond, Expr, Function, Signed};
 use sqlite_items::Boxed;
 
-/// Whether both are the same expression where these items are in sight.
-#[cycle(same)]
+/// Whether both are the same expression where these items are in sight. Columns are compared by what they mean, and no expression with a
+/// subquery is the same as another (select-clause, order-by-clause).
+#[tactic(auto, using(crate::proofs::Sames::same_is))]
 pub fn is_same_expr(catalog: &Catalog, seen: &[Seen], one: &Expr, other: &Expr) -> bool
     ensures { result ≡ same.same (catalogue catalog.now) seen.now one.now other.now }
+{
+    is_same(catalog, seen, one, other)
+}
+
+#[cycle(same)]
+#[tactic(auto, using(crate::proofs::Sames::like_atom, crate::proofs::Sames::like_sum, crate::proofs::Sames::like_concat, crate::proofs::Sames::like_product, crate::proofs::Sames::like_case, crate::proofs::Sames::like_match, crate::proofs::Sames::like_aggregate, crate::proofs::Sames::like_substr, crate::proofs::Sames::like_apply, crate::proofs::Sames::like_coalesce))]
+fn is_same(catalog: &Catalog, seen: &[Seen], one: &Expr, other: &Expr) -> bool
+    ensures { result ≡ (expr_of liking (like_steps (catalogue catalog.now) seen.now) one.now).to other.now }
 {
     match one {
         Expr::Atom(atom) => match other {
@@ -43,26 +52,30 @@ pub fn is_same_expr(catalog: &Catalog, seen: &[Seen], one: &Expr, other: &Expr) 
         },
         Expr::Match(operand, choices, otherwise) => match other {
             Expr::Match(another, others, its_otherwise) => {
-                is_same_expr(catalog, seen, operand.get(), another.get())
-                    && are_same_choices(catalog, seen, choices.as_slice(), others.as_slice())
-                    && are_same_options(catalog, seen, otherwise, its_otherwise)
+                if is_same(catalog, seen, operand.get(), another.get()) {
+                    are_same_choices(catalog, seen, choices.as_slice(), others.as_slice()) && are_same_options(catalog, seen, otherwise, its_otherwise)
+                } else {
+                    false
+                }
             }
             _ => false,
         },
         Expr::Aggregate(aggregate, of) => match other {
-            Expr::Aggregate(another, other_of) => *aggregate == *another && is_same_expr(catalog, seen, of.get(), other_of.get()),
+            Expr::Aggregate(another, other_of) => is_same_aggregate(*aggregate, *another) && is_same(catalog, seen, of.get(), other_of.get()),
             _ => false,
         },
         Expr::Substr(text, from, length) => match other {
             Expr::Substr(another, other_from, other_length) => {
-                is_same_expr(catalog, seen, text.get(), another.get())
-                    && is_same_expr(catalog, seen, from.get(), other_from.get())
-                    && are_same_options(catalog, seen, length, other_length)
+                if is_same(catalog, seen, text.get(), another.get()) {
+                    is_same(catalog, seen, from.get(), other_from.get()) && are_same_options(catalog, seen, length, other_length)
+                } else {
+                    false
+                }
             }
             _ => false,
         },
         Expr::Apply(function, to) => match other {
-            Expr::Apply(another, other_to) => *function == *another && is_same_expr(catalog, seen, to.get(), other_to.get()),
+            Expr::Apply(another, other_to) => is_same_function(*function, *another) && is_same(catalog, seen, to.get(), other_to.get()),
             _ => false,
         },
         Expr::Coalesce(parts) => match other {
@@ -74,6 +87,7 @@ pub fn is_same_expr(catalog: &Catalog, seen: &[Seen], one: &Expr, other: &Expr) 
 
 /// Whether both are the same condition.
 #[cycle(same)]
+#[tactic(auto, using(crate::proofs::Sames::like_or, crate::proofs::Sames::like_and, crate::proofs::Sames::like_not, crate::proofs::Sames::like_compare, crate::proofs::Sames::like_isnull, crate::proofs::Sames::like_inlist, crate::proofs::Sames::like_between, crate::proofs::Sames::like_exists, crate::proofs::Sames::like_comparequery, crate::proofs::Sames::like_inquery))]
 fn is_same_cond(catalog: &Catalog, seen: &[Seen], one: &Cond, other: &Cond) -> bool
     ensures { result ≡ (cond_of liking (like_steps (catalogue catalog.now) seen.now) one.now).to other.now }
 {
@@ -92,28 +106,32 @@ fn is_same_cond(catalog: &Catalog, seen: &[Seen], one: &Cond, other: &Cond) -> b
         },
         Cond::Compare(by, left, right) => match other {
             Cond::Compare(other_by, other_left, other_right) => {
-                *by == *other_by
-                    && is_same_expr(catalog, seen, left.get(), other_left.get())
-                    && is_same_expr(catalog, seen, right.get(), other_right.get())
+                if is_same_comparison(*by, *other_by) {
+                    is_same(catalog, seen, left.get(), other_left.get()) && is_same(catalog, seen, right.get(), other_right.get())
+                } else {
+                    false
+                }
             }
             _ => false,
         },
         Cond::IsNull(part) => match other {
-            Cond::IsNull(another) => is_same_expr(catalog, seen, part.get(), another.get()),
+            Cond::IsNull(another) => is_same(catalog, seen, part.get(), another.get()),
             _ => false,
         },
         Cond::InList(part, list) => match other {
             Cond::InList(another, others) => {
-                is_same_expr(catalog, seen, part.get(), another.get())
+                is_same(catalog, seen, part.get(), another.get())
                     && are_same_exprs(catalog, seen, list.as_slice(), others.as_slice())
             }
             _ => false,
         },
         Cond::Between(part, low, high) => match other {
             Cond::Between(another, other_low, other_high) => {
-                is_same_expr(catalog, seen, part.get(), another.get())
-                    && is_same_expr(catalog, seen, low.get(), other_low.get())
-                    && is_same_expr(catalog, seen, high.get(), other_high.get())
+                if is_same(catalog, seen, part.get(), another.get()) {
+                    is_same(catalog, seen, low.get(), other_low.get()) && is_same(catalog, seen, high.get(), other_high.get())
+                } else {
+                    false
+                }
             }
             _ => false,
         },
@@ -144,6 +162,7 @@ fn is_same_atom(catalog: &Catalog, seen: &[Seen], one: &Atom, other: &Atom) -> b
     }
 }
 
+#[tactic(auto, using(crate::proofs::Sames::names_at, crate::proofs::Sames::names_length))]
 fn are_same_names(names: &[Str], others: &[Str]) -> bool
     ensures { result ≡ same.same_names names.now others.now }
 {
@@ -166,33 +185,37 @@ fn are_same_options(catalog: &Catalog, seen: &[Seen], one: &Option<Boxed<Expr>>,
         None => other.is_none(),
         Some(one) => match other {
             None => false,
-            Some(other) => is_same_expr(catalog, seen, one.get(), other.get()),
+            Some(other) => is_same(catalog, seen, one.get(), other.get()),
         },
     }
 }
 
 #[cycle(same)]
+#[tactic(auto, using(crate::proofs::Sames::like_arm))]
 fn is_same_arm(catalog: &Catalog, seen: &[Seen], one: &Arm, other: &Arm) -> bool
     ensures { result ≡ (arm_of liking (like_steps (catalogue catalog.now) seen.now) one.now).to other.now }
 {
-    is_same_cond(catalog, seen, &one.when, &other.when) && is_same_expr(catalog, seen, &one.result, &other.result)
+    is_same_cond(catalog, seen, &one.when, &other.when) && is_same(catalog, seen, &one.result, &other.result)
 }
 
 #[cycle(same)]
+#[tactic(auto, using(crate::proofs::Sames::like_choice))]
 fn is_same_choice(catalog: &Catalog, seen: &[Seen], one: &Choice, other: &Choice) -> bool
     ensures { result ≡ (choice_of liking (like_steps (catalogue catalog.now) seen.now) one.now).to other.now }
 {
-    is_same_expr(catalog, seen, &one.when, &other.when) && is_same_expr(catalog, seen, &one.result, &other.result)
+    is_same(catalog, seen, &one.when, &other.when) && is_same(catalog, seen, &one.result, &other.result)
 }
 
 #[cycle(same)]
+#[tactic(auto, using(crate::proofs::Sames::like_signed))]
 fn is_same_part(catalog: &Catalog, seen: &[Seen], one: &Signed, other: &Signed) -> bool
     ensures { result ≡ (signed_of liking (like_steps (catalogue catalog.now) seen.now) one.now).to other.now }
 {
-    one.minus == other.minus && is_same_expr(catalog, seen, &one.part, &other.part)
+    one.minus == other.minus && is_same(catalog, seen, &one.part, &other.part)
 }
 
 #[cycle(same)]
+#[tactic(auto, using(crate::proofs::Sames::likes_at, crate::proofs::Sames::likes_length))]
 fn are_same_exprs(catalog: &Catalog, seen: &[Seen], ones: &[Expr], others: &[Expr]) -> bool
     ensures { result ≡ same.all_like (map (expr_of liking (like_steps (catalogue catalog.now) seen.now)) ones.now) others.now }
 {
@@ -200,7 +223,7 @@ fn are_same_exprs(catalog: &Catalog, seen: &[Seen], ones: &[Expr], others: &[Exp
         return false;
     }
     for (i, one) in ones.iter().enumerate() {
-        if !is_same_expr(catalog, seen, one, &others[i]) {
+        if !is_same(catalog, seen, one, &others[i]) {
             return false;
         }
     }
@@ -208,6 +231,7 @@ fn are_same_exprs(catalog: &Catalog, seen: &[Seen], ones: &[Expr], others: &[Exp
 }
 
 #[cycle(same)]
+#[tactic(auto, using(crate::proofs::Sames::likes_at, crate::proofs::Sames::likes_length))]
 fn are_same_parts(catalog: &Catalog, seen: &[Seen], ones: &[Signed], others: &[Signed]) -> bool
     ensures { result ≡ same.all_like (map (signed_of liking (like_steps (catalogue catalog.now) seen.now)) ones.now) others.now }
 {
@@ -223,6 +247,7 @@ fn are_same_parts(catalog: &Catalog, seen: &[Seen], ones: &[Signed], others: &[S
 }
 
 #[cycle(same)]
+#[tactic(auto, using(crate::proofs::Sames::likes_at, crate::proofs::Sames::likes_length))]
 fn are_same_arms(catalog: &Catalog, seen: &[Seen], ones: &[Arm], others: &[Arm]) -> bool
     ensures { result ≡ same.all_like (map (arm_of liking (like_steps (catalogue catalog.now) seen.now)) ones.now) others.now }
 {
@@ -238,6 +263,7 @@ fn are_same_arms(catalog: &Catalog, seen: &[Seen], ones: &[Arm], others: &[Arm])
 }
 
 #[cycle(same)]
+#[tactic(auto, using(crate::proofs::Sames::likes_at, crate::proofs::Sames::likes_length))]
 fn are_same_choices(catalog: &Catalog, seen: &[Seen], ones: &[Choice], others: &[Choice]) -> bool
     ensures { result ≡ same.all_like (map (choice_of liking (like_steps (catalogue catalog.now) seen.now)) ones.now) others.now }
 {
@@ -253,6 +279,7 @@ fn are_same_choices(catalog: &Catalog, seen: &[Seen], ones: &[Choice], others: &
 }
 
 #[cycle(same)]
+#[tactic(auto, using(crate::proofs::Sames::likes_at, crate::proofs::Sames::likes_length))]
 fn are_same_conds(catalog: &Catalog, seen: &[Seen], ones: &[Cond], others: &[Cond]) -> bool
     ensures { result ≡ same.all_like (map (cond_of liking (like_steps (catalogue catalog.now) seen.now)) ones.now) others.now }
 {
@@ -265,4 +292,43 @@ fn are_same_conds(catalog: &Catalog, seen: &[Seen], ones: &[Cond], others: &[Con
         }
     }
     true
+}
+
+fn is_same_comparison(one: Comparison, other: Comparison) -> bool
+    ensures { result ≡ same.same_comparison one other }
+{
+    match (one, other) {
+        (Comparison::Equal, Comparison::Equal)
+        | (Comparison::NotEqual, Comparison::NotEqual)
+        | (Comparison::Less, Comparison::Less)
+        | (Comparison::AtMost, Comparison::AtMost)
+        | (Comparison::Greater, Comparison::Greater)
+        | (Comparison::AtLeast, Comparison::AtLeast) => true,
+        _ => false,
+    }
+}
+
+fn is_same_aggregate(one: Aggregate, other: Aggregate) -> bool
+    ensures { result ≡ same.same_aggregate one other }
+{
+    match (one, other) {
+        (Aggregate::Count, Aggregate::Count)
+        | (Aggregate::CountDistinct, Aggregate::CountDistinct)
+        | (Aggregate::Sum, Aggregate::Sum)
+        | (Aggregate::Min, Aggregate::Min)
+        | (Aggregate::Max, Aggregate::Max) => true,
+        _ => false,
+    }
+}
+
+fn is_same_function(one: Function, other: Function) -> bool
+    ensures { result ≡ same.same_function one other }
+{
+    match (one, other) {
+        (Function::Length, Function::Length)
+        | (Function::Year, Function::Year)
+        | (Function::Month, Function::Month)
+        | (Function::Day, Function::Day) => true,
+        _ => false,
+    }
 }
