@@ -62,8 +62,9 @@ impl Walk<'_> {
         }
     }
 
+    /// The names in some expressions.
     #[cycle(names)]
-    fn exprs(&self, list: &[Expr], sight: &Sight) -> Result<(), Stop>
+    pub fn exprs(&self, list: &[Expr], sight: &Sight) -> Result<(), Stop>
         ensures { Passes result (parts.of_all (parts.in_expr self.now) list.now sight.now) }
     {
         for part in list {
