@@ -1,2 +1,3 @@
 mod Nodes
+mod Rules
 mod Stopping

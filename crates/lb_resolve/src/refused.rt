@@ -28,6 +28,7 @@ pub fn names_refused(alloc: Global, catalog: &Catalog, stmt: &Stmt) -> Result<Op
     told(statement_passes(alloc, catalog, stmt))
 }
 
+#[tactic(auto, using(crate::proofs::Rules::passing))]
 fn statement_passes(alloc: Global, catalog: &Catalog, stmt: &Stmt) -> Result<(), Stop>
     ensures { Passes result (statements.names_refused (catalogue catalog.now) stmt.now) }
 {
@@ -46,6 +47,7 @@ pub fn permission_names_refused(alloc: Global, catalog: &Catalog, on: &Tab, cond
     told(condition_passes(alloc, catalog, on, condition))
 }
 
+#[tactic(auto, using(crate::proofs::Rules::passing))]
 fn condition_passes(alloc: Global, catalog: &Catalog, on: &Tab, condition: &Cond) -> Result<(), Stop>
     ensures { Passes result (statements.permission_names_refused (catalogue catalog.now) on.now condition.now) }
 {
@@ -63,6 +65,7 @@ pub fn mask_names_refused(alloc: Global, catalog: &Catalog, on: &Tab, value: &Ex
     told(value_passes(alloc, catalog, on, value))
 }
 
+#[tactic(auto, using(crate::proofs::Rules::passing))]
 fn value_passes(alloc: Global, catalog: &Catalog, on: &Tab, value: &Expr) -> Result<(), Stop>
     ensures { Passes result (statements.mask_names_refused (catalogue catalog.now) on.now value.now) }
 {

@@ -15,6 +15,7 @@ use sqlite_items::Items;
 /// Statements.
 impl Walk<'_> {
     /// The names in a query or a write. A change of the catalogue has its own rules for names.
+    #[tactic(auto, using(crate::proofs::Rules::passing))]
     pub fn statement(&self, stmt: &Stmt) -> Result<(), Stop>
         ensures { Passes result (parts.in_statement self.now stmt.now) }
     {
@@ -41,6 +42,7 @@ impl Walk<'_> {
     }
 
     /// The names in a query with its ORDER BY, which sees what the select list sees.
+    #[tactic(auto, using(crate::proofs::Rules::passing))]
     fn select(&self, select: &Select) -> Result<(), Stop>
         ensures { Passes result (parts.in_select self.now select.now) }
     {
@@ -50,6 +52,7 @@ impl Walk<'_> {
         self.keys(select.query.items.as_slice(), select.order.as_slice(), &sight)
     }
 
+    #[tactic(auto, using(crate::proofs::Rules::passing))]
     fn keys(&self, items: &[Item], keys: &[SortKey], sight: &Sight) -> Result<(), Stop>
         ensures { Passes result (parts.in_keys self.now items.now sight.now keys.now) }
     {
@@ -78,6 +81,7 @@ impl Walk<'_> {
         }
     }
 
+    #[tactic(auto, using(crate::proofs::Rules::passing))]
     fn rows(&self, rows: &[Items<Expr>], sight: &Sight) -> Result<(), Stop>
         ensures { Passes result (parts.of_all (parts.of_all (parts.in_expr self.now)) rows.now sight.now) }
     {
@@ -87,6 +91,7 @@ impl Walk<'_> {
         Ok(())
     }
 
+    #[tactic(auto, using(crate::proofs::Rules::passing))]
     fn assignments(&self, assignments: &[Assignment], sight: &Sight) -> Result<(), Stop>
         ensures { Passes result (parts.of_all (parts.in_assignment self.now) assignments.now sight.now) }
     {

@@ -43,6 +43,7 @@ fn assigned(alloc: Global, assignments: &[Assignment]) -> Result<Items<Name>, No
     Ok(names)
 }
 
+#[tactic(auto, using(crate::proofs::Rules::passing))]
 fn targets(alloc: Global, columns: &[ColumnRec], names: &[Name]) -> Result<(), Stop>
     ensures { Passes result (statements.targets_refused (map field_of columns.now) [] names.now) }
 {

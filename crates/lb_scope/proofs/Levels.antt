@@ -1,5 +1,5 @@
 -- A query has no higher level than there are items in sight.
-use Rattle.std.proofs.Common.{ℕ, ◌≡◌, ◌≤◌, ◌+◌, suc, List, [], ◌∷◌, ◌++◌, map, length, refl, sym, ap, ◌∙◌, subst, arith, length-append, length-map}
+use Rattle.std.proofs.Common.{ℕ, ◌≡◌, ◌≤◌, ◌+◌, List, [], ◌∷◌, ◌++◌, map, length, sym, ap, ◌∙◌, subst, arith, length-append}
 use Rattle.lb_tree.specs.declared.query.Tab.{Tab}
 use Rattle.lb_names.specs.declared.place.Seen.{Seen}
 use Rattle.lb_names.specs.Sights.{at_level, level_in, items_in}

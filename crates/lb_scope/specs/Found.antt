@@ -1,5 +1,5 @@
 -- What a look-up by name gives in the code, as the definitions of names and types see it.
-use Rattle.std.specs.Prelude.{ℕ, List, Ok, Err}
+use Rattle.std.specs.Prelude.{Ok, Err}
 use Rattle.lb_cat.specs.Stamps.{Kept, bare}
 use Rattle.lb_names.specs.Kinds as kinds
 use Rattle.lb_names.specs.Scopes.{Catalogue, Resolved}

@@ -1,26 +1,24 @@
 // The policies and labels that calls of SECLABEL, SECLABEL_BY_NAME and SECLABEL_TO_CHAR name. Names are looked up as given.
 ghost use Rattle.std.specs.Prelude.{◌≡◌, find, is_some};
-ghost use Rattle.std.specs.Option.{option_map};
 ghost use Rattle.lb_cat.specs.Catalog as cat;
-ghost use Rattle.lb_cat.specs.Stamps.{bare, bare_policy};
 ghost use Rattle.lb_scope.specs.Found.{catalogue};
 
 use lb_base::Str;
-use lb_cat::{Catalog, LabelRec, PolicyRec};
+use lb_cat::{Catalog, LabelRec};
 use lb_label::read_text;
 
 /// Whether there is a policy with that name.
 pub fn has_policy(catalog: &Catalog, policy: &Str) -> bool
     ensures { result ≡ (catalogue catalog.now).has_policy policy.now }
 {
-    policy_called(catalog, policy.as_str()).is_some()
+    catalog.policy_called(policy.as_str()).is_some()
 }
 
 /// Whether there is such a policy, and it has a label of that name.
 pub fn has_label(catalog: &Catalog, policy: &Str, label: &Str) -> bool
     ensures { result ≡ (catalogue catalog.now).has_label policy.now label.now }
 {
-    match policy_called(catalog, policy.as_str()) {
+    match catalog.policy_called(policy.as_str()) {
         Some(policy) => is_label(label.as_str(), policy.labels.as_slice()),
         None => false,
     }
@@ -31,26 +29,13 @@ pub fn has_label(catalog: &Catalog, policy: &Str, label: &Str) -> bool
 pub fn label_fault(catalog: &Catalog, policy: &Str, text: &Str) -> Option<u32>
     ensures { result ≡ (catalogue catalog.now).label_fault policy.now text.now }
 {
-    match policy_called(catalog, policy.as_str()) {
+    match catalog.policy_called(policy.as_str()) {
         Some(policy) => match read_text(&policy.shape, text.as_str()) {
             Ok(_) => None,
             Err(fault) => Some(fault.at),
         },
         None => None,
     }
-}
-
-/// The policy with that name.
-fn policy_called<'a>(catalog: &'a Catalog, name: &str) -> Option<&'a PolicyRec>
-    ensures { option_map (λ p. bare_policy p.now) result ≡ cat.policy_named (bare catalog.now) name.now }
-{
-    for place in 0..usize::MAX {
-        let policy = catalog.policy_at(place)?;
-        if policy.name.as_str() == name {
-            return Some(policy);
-        }
-    }
-    None
 }
 
 /// Whether one of these labels has that name.
