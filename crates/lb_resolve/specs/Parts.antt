@@ -12,12 +12,22 @@ use Rattle.lb_tree.specs.declared.query.Choice.{Choice}
 use Rattle.lb_tree.specs.declared.query.Query.{Query}
 use Rattle.lb_tree.specs.declared.query.Signed.{Signed}
 use Rattle.lb_tree.specs.declared.query.Atom.{Atom}
-use Rattle.lb_tree.specs.Folds.{cond_of, expr_of, item_of, join_of, arm_of, chain_of, choice_of, query_of, signed_of}
+use Rattle.lb_tree.specs.declared.query.SortKey.{SortKey}
+use Rattle.lb_tree.specs.declared.query.Select.{Select}
+use Rattle.lb_tree.specs.declared.query.Cond.TheOpen as layers
+use Rattle.lb_tree.specs.declared.query.Cond.TheViews.{out-Query}
+use Rattle.lb_stmt.specs.declared.write.Assignment.{Assignment}
+use Rattle.lb_stmt.specs.declared.write.InsertSource.{InsertSource}
+use Rattle.lb_stmt.specs.declared.write.InsertSource.TheVariants as sources
+use Rattle.lb_stmt.specs.declared.write.Stmt.{Stmt}
+use Rattle.lb_stmt.specs.declared.write.Stmt.TheVariants as stmts
+use Rattle.lb_tree.specs.Folds.{Written, cond_of, expr_of, item_of, join_of, arm_of, chain_of, choice_of, query_of, signed_of}
 use Rattle.lb_names.specs.declared.place.Seen.{Seen}
 use Rattle.lb_names.specs.declared.refused.Refused.{Refused}
-use Rattle.lb_names.specs.Sights.{Name, Sight, correlation, calls_of, inside}
+use Rattle.lb_names.specs.Sights.{Name, Sight, correlation, calls_of, nothing, inside}
 use Rattle.lb_names.specs.Marks.{item, column, marked, mark_steps, atom_marks, tables_of_chain}
-use Rattle.lb_names.specs.SortNames.{or_else}
+use Rattle.lb_names.specs.SortNames.{or_else, meant}
+use Rattle.lb_names.specs.StatementMarks.{over, target_of, order_sight}
 use Rattle.lb_names.specs.Passes.{first}
 use Rattle.lb_resolve.specs.declared.mark.Walk.{Walk}
 use Rattle.lb_resolve.specs.Passing.{asked}
@@ -96,3 +106,48 @@ module _ (w : Walk) where
   in_chains outer taken before (ch ∷ chains) =
       or_else (in_chain outer taken before ch)
       (in_chains outer taken (before ++ calls_of (tables_of_chain (chain_of marked mark_steps ch))) chains)
+
+  -- of the clauses of a query that stands in the one sight, and whose clauses see the other
+  abbrev pub in_clauses : Written layers.Query-F → Sight → Sight → Option Refused
+  in_clauses q outer inner =
+      or_else (of_all in_item q.items inner)
+      (or_else (in_chains outer inner.around [] q.from)
+      (or_else (of_maybe in_cond q.filter inner)
+      (or_else (in_group inner.seen q.group)
+      (of_maybe in_cond q.having inner))))
+
+  -- ---- statements
+
+  -- of a key of ORDER BY of a query with these items
+  abbrev pub in_meant : Sight → Expr → Option Expr → Option Refused
+  in_meant v e (Some f) = None
+  in_meant v e None = in_expr e v
+
+  abbrev pub in_key : List Item → Sight → Expr → Option Refused
+  in_key items v e = in_meant v e (meant items e)
+
+  -- of all keys
+  abbrev pub in_keys : List Item → Sight → List SortKey → Option Refused
+  in_keys items v [] = None
+  in_keys items v (k ∷ ks) = or_else (in_key items v k.by) (in_keys items v ks)
+
+  -- of a query with its ORDER BY
+  abbrev pub in_select : Select → Option Refused
+  in_select s = or_else (in_query s.query nothing) (in_keys (out-Query s.query).items (order_sight s) s.order)
+
+  -- of VALUES or a source query
+  abbrev pub in_source : InsertSource → Option Refused
+  in_source (sources.Rows rows) = of_all (of_all in_expr) rows nothing
+  in_source (sources.Query s) = in_select s
+
+  -- of the value of column = value
+  abbrev pub in_assignment : Assignment → Sight → Option Refused
+  in_assignment a v = in_expr a.value v
+
+  -- of a statement
+  abbrev pub in_statement : Stmt → Option Refused
+  in_statement (stmts.Select s) = in_select s
+  in_statement (stmts.Insert i) = or_else (asked w (item [] [] (target_of i.table))) (in_source i.source)
+  in_statement (stmts.Update u) = or_else (asked w (item [] [] u.target)) (or_else (of_all in_assignment u.assignments (over u.target)) (of_maybe in_cond u.filter (over u.target)))
+  in_statement (stmts.Delete d) = or_else (asked w (item [] [] d.target)) (of_maybe in_cond d.filter (over d.target))
+  in_statement (stmts.Change c) = None

@@ -7,6 +7,5 @@ mod refused;
 mod statement;
 mod stop;
 mod target;
-mod write;
 
 pub use refused::{mask_names_refused, names_refused, permission_names_refused};

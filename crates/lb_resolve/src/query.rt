@@ -17,6 +17,7 @@ use sqlite_items::Boxed;
 /// Expressions.
 impl Walk<'_> {
     /// The names in an expression.
+    #[tactic(auto, using(crate::proofs::Rules::expressions))]
     #[cycle(names)]
     pub fn expr(&self, expr: &Expr, sight: &Sight) -> Result<(), Stop>
         ensures { Passes result (parts.in_expr self.now expr.now sight.now) }
@@ -47,6 +48,7 @@ impl Walk<'_> {
     }
 
     /// The names in a leaf. SECLABEL_TO_CHAR names its policy before its column.
+    #[tactic(auto, using(crate::proofs::Rules::passing))]
     fn atom(&self, atom: &Atom, sight: &Sight) -> Result<(), Stop>
         ensures { Passes result (parts.in_atom self.now atom.now sight.now) }
     {
@@ -62,8 +64,10 @@ impl Walk<'_> {
         }
     }
 
+    /// The names in some expressions.
+    #[tactic(auto, using(crate::proofs::Rules::passing))]
     #[cycle(names)]
-    fn exprs(&self, list: &[Expr], sight: &Sight) -> Result<(), Stop>
+    pub fn exprs(&self, list: &[Expr], sight: &Sight) -> Result<(), Stop>
         ensures { Passes result (parts.of_all (parts.in_expr self.now) list.now sight.now) }
     {
         for part in list {
@@ -72,6 +76,7 @@ impl Walk<'_> {
         Ok(())
     }
 
+    #[tactic(auto, using(crate::proofs::Rules::passing))]
     #[cycle(names)]
     fn maybe_expr(&self, part: &Option<Boxed<Expr>>, sight: &Sight) -> Result<(), Stop>
         ensures { Passes result (parts.of_maybe (parts.in_expr self.now) part.now sight.now) }
@@ -82,6 +87,7 @@ impl Walk<'_> {
         }
     }
 
+    #[tactic(auto, using(crate::proofs::Rules::passing))]
     #[cycle(names)]
     fn sum(&self, list: &[Signed], sight: &Sight) -> Result<(), Stop>
         ensures { Passes result (parts.of_all (parts.in_signed self.now) list.now sight.now) }
@@ -92,6 +98,7 @@ impl Walk<'_> {
         Ok(())
     }
 
+    #[tactic(auto, using(crate::proofs::Rules::nodes))]
     #[cycle(names)]
     fn signed(&self, part: &Signed, sight: &Sight) -> Result<(), Stop>
         ensures { Passes result (parts.in_signed self.now part.now sight.now) }
@@ -99,6 +106,7 @@ impl Walk<'_> {
         self.expr(&part.part, sight)
     }
 
+    #[tactic(auto, using(crate::proofs::Rules::passing))]
     #[cycle(names)]
     fn arms(&self, arms: &[Arm], sight: &Sight) -> Result<(), Stop>
         ensures { Passes result (parts.of_all (parts.in_arm self.now) arms.now sight.now) }
@@ -109,6 +117,7 @@ impl Walk<'_> {
         Ok(())
     }
 
+    #[tactic(auto, using(crate::proofs::Rules::nodes))]
     #[cycle(names)]
     fn arm(&self, arm: &Arm, sight: &Sight) -> Result<(), Stop>
         ensures { Passes result (parts.in_arm self.now arm.now sight.now) }
@@ -117,6 +126,7 @@ impl Walk<'_> {
         self.expr(&arm.result, sight)
     }
 
+    #[tactic(auto, using(crate::proofs::Rules::passing))]
     #[cycle(names)]
     fn choices(&self, choices: &[Choice], sight: &Sight) -> Result<(), Stop>
         ensures { Passes result (parts.of_all (parts.in_choice self.now) choices.now sight.now) }
@@ -127,6 +137,7 @@ impl Walk<'_> {
         Ok(())
     }
 
+    #[tactic(auto, using(crate::proofs::Rules::nodes))]
     #[cycle(names)]
     fn choice(&self, choice: &Choice, sight: &Sight) -> Result<(), Stop>
         ensures { Passes result (parts.in_choice self.now choice.now sight.now) }
@@ -139,6 +150,7 @@ impl Walk<'_> {
 /// Conditions.
 impl Walk<'_> {
     /// The names in a condition.
+    #[tactic(auto, using(crate::proofs::Rules::conditions))]
     #[cycle(names)]
     pub fn cond(&self, cond: &Cond, sight: &Sight) -> Result<(), Stop>
         ensures { Passes result (parts.in_cond self.now cond.now sight.now) }
@@ -173,6 +185,7 @@ impl Walk<'_> {
         }
     }
 
+    #[tactic(auto, using(crate::proofs::Rules::passing))]
     #[cycle(names)]
     fn conds(&self, list: &[Cond], sight: &Sight) -> Result<(), Stop>
         ensures { Passes result (parts.of_all (parts.in_cond self.now) list.now sight.now) }
@@ -183,6 +196,7 @@ impl Walk<'_> {
         Ok(())
     }
 
+    #[tactic(auto, using(crate::proofs::Rules::passing))]
     #[cycle(names)]
     fn maybe_cond(&self, part: &Option<Boxed<Cond>>, sight: &Sight) -> Result<(), Stop>
         ensures { Passes result (parts.of_maybe (parts.in_cond self.now) part.now sight.now) }
@@ -197,6 +211,7 @@ impl Walk<'_> {
 /// Queries.
 impl Walk<'_> {
     /// The names in a query that stands where this is in sight: select list, FROM, WHERE, GROUP BY, HAVING.
+    #[tactic(auto, using(crate::proofs::Rules::queries))]
     #[cycle(names)]
     pub fn query(&self, query: &Query, outer: &Sight) -> Result<(), Stop>
         ensures { Passes result (parts.in_query self.now query.now outer.now) }
@@ -209,6 +224,7 @@ impl Walk<'_> {
         self.maybe_cond(&query.having, &inner)
     }
 
+    #[tactic(auto, using(crate::proofs::Rules::passing))]
     #[cycle(names)]
     fn items(&self, items: &[Item], sight: &Sight) -> Result<(), Stop>
         ensures { Passes result (parts.of_all (parts.in_item self.now) items.now sight.now) }
@@ -219,6 +235,7 @@ impl Walk<'_> {
         Ok(())
     }
 
+    #[tactic(auto, using(crate::proofs::Rules::nodes))]
     #[cycle(names)]
     fn item(&self, item: &Item, sight: &Sight) -> Result<(), Stop>
         ensures { Passes result (parts.in_item self.now item.now sight.now) }
@@ -230,6 +247,7 @@ impl Walk<'_> {
         }
     }
 
+    #[tactic(auto, using(crate::proofs::Rules::passing))]
     fn group(&self, columns: &[Column], seen: &[Seen]) -> Result<(), Stop>
         ensures { Passes result (parts.in_group self.now seen.now columns.now) }
     {
@@ -240,6 +258,7 @@ impl Walk<'_> {
     }
 
     /// The chains of FROM of a query that stands where `outer` is in sight, of which `query` is what its clauses see.
+    #[tactic(auto, using(crate::proofs::Rules::passing))]
     #[cycle(names)]
     fn chains(&self, chains: &[Chain], outer: &Sight, query: &Sight) -> Result<(), Stop>
         ensures { Passes result (parts.in_chains self.now outer.now query.now.around [] chains.now) }
@@ -261,6 +280,7 @@ impl Walk<'_> {
     }
 
     /// A chain that stands after these correlation names of its query.
+    #[tactic(auto, using(crate::proofs::Rules::passing))]
     #[cycle(names)]
     fn chain(&self, chain: &Chain, outer: &Sight, query: &Sight, before: &Names) -> Result<(), Stop>
         ensures { Passes result (parts.in_chain self.now outer.now query.now.around before.now chain.now) }
@@ -288,6 +308,7 @@ impl Walk<'_> {
     }
 
     /// The joins of a chain that stand after these tables of it, and after these correlation names of the query.
+    #[tactic(auto, using(crate::proofs::Rules::passing))]
     #[cycle(names)]
     fn joins(
         &self,
@@ -312,6 +333,7 @@ impl Walk<'_> {
     }
 
     /// The ON condition of a join, which sees these tables of its chain.
+    #[tactic(auto, using(crate::proofs::Rules::nodes))]
     #[cycle(names)]
     fn on(&self, join: &Join, outer: &Sight, query: &Sight, tabs: &[Tab]) -> Result<(), Stop>
         ensures { Passes result (parts.in_on self.now join.now (parts.on_sight self.now outer.now query.now.around tabs.now)) }

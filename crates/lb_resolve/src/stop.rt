@@ -1,7 +1,8 @@
 // Why a pass over the names of a text stops before its end.
-ghost use Rattle.std.specs.Prelude.{◌≡◌, IfOk};
+ghost use Rattle.std.specs.Prelude.{◌≡◌, IfOk, Option};
 ghost use Rattle.std.specs.Option.{option_map};
 ghost use Rattle.lb_alter.specs.Naming.{refusal_for};
+ghost use Rattle.lb_names.specs.declared.refused.Refused.{Refused as AnyRefused};
 ghost use Rattle.lb_resolve.specs.declared.stop.Stop.TheVariants as stops;
 ghost use Rattle.lb_resolve.specs.Passing.{Passes};
 
@@ -34,5 +35,16 @@ fn refusal_of(refused: Refused) -> Refusal
         Refused::Exists(name) => Refusal::Exists(name),
         Refused::BadLabel(at) => Refusal::BadLabel(at),
         Refused::Types(at) => Refusal::Types(at),
+    }
+}
+
+/// What a check tells whose passes ended so: the refusal that stopped them, and none where they came to the end.
+pub fn told(passed: Result<(), Stop>) -> Result<Option<Refusal>, NoMemory>
+    ensures { (first : Option AnyRefused) → Passes passed first → IfOk result (λ r. r ≡ option_map refusal_for first) }
+{
+    match passed {
+        Ok(()) => Ok(None),
+        Err(Stop::Refused(refused)) => Ok(Some(refusal_of(refused))),
+        Err(Stop::NoMemory) => Err(AllocError),
     }
 }

@@ -1,1 +1,3 @@
-mod FromTables
+pub mod FromTables
+mod Heads
+mod Levels

@@ -29,7 +29,7 @@ impl Model for Sight {
 
     ghost view = { λ s. record { level = s.level; own = take s.own s.seen; seen = s.seen; around = s.around } };
 
-    ghost invariant = { λ s. sights.level_in s.seen ≤ length s.seen };
+    ghost invariant = { λ s. (s.own ≤ length s.seen) × (sights.level_in s.seen ≤ length s.seen) };
 }
 
 impl Sight {
@@ -69,8 +69,9 @@ impl Sight {
         let mut tabs = Listing::empty(alloc);
         tabs.push(tab.copy()?)?;
         let names = calls(alloc, tabs.as_slice())?;
-        let outside = Sight::nothing(alloc);
-        outside.inside_tables(alloc, tabs.as_slice(), names, &outside.around)
+        let nothing = Sight::nothing(alloc);
+        let outer = &nothing;
+        outer.inside_tables(alloc, tabs.as_slice(), names, &outer.around)
     }
 
     /// The number of queries that enclose the query.
