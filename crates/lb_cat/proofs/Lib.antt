@@ -1,1 +1,5 @@
 pub mod Bare
+pub mod ByName
+pub mod Marked
+pub mod Marking
+pub mod Stamping

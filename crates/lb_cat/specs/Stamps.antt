@@ -1,7 +1,7 @@
 -- The records that the program keeps have stamps. The catalogue without them is `bare`.
 use Rattle.std.specs.Prelude.{ℕ, ◌≡◌, Bool, ◌&&◌, if◌then◌else◌, List, map, find, Option, None, Some, is_some, option_map}
 use Rattle.std.specs.Arc.{arc_value}
-use Rattle.std.specs.List.{list_any}
+use Rattle.std.specs.List.{list_any, AllZip}
 use Rattle.std.specs.Str.{bytes_eq}
 use Rattle.lb_base.specs.declared.key.Key.{Key}
 use Rattle.lb_base.specs.declared.key.Key.TheVariants as keys
@@ -11,7 +11,7 @@ use Rattle.lb_cat.specs.declared.catalog.ComponentRec.{ComponentRec}
 use Rattle.lb_cat.specs.declared.catalog.UserRec.{UserRec}
 use Rattle.lb_cat.specs.declared.catalog.RoleRec.{RoleRec}
 use Rattle.lb_rows.specs.Lists.{put, without}
-use Rattle.lb_cat.specs.Keys.{has_key}
+use Rattle.lb_cat.specs.Keys.{same_key, has_key}
 use Rattle.lb_cat.specs.Catalog.{Cat, Table, Policy, Component, User, table_named, policy_named, component_named, user_named, has_role, put_table, put_policy, put_component, put_user, put_role, drop_table, drop_policy, drop_component, drop_role}
 
 -- the catalogue as it is kept
@@ -192,10 +192,23 @@ IsAlikeComponent c d = (bare_component c ≡ bare_component d) × (c.stamp ≡ d
 pub record IsAlike (K L : Kept) : Type 0 where
   pub tables : K.tables ≡ L.tables
   pub policies : K.policies ≡ L.policies
-  pub components : map bare_component K.components ≡ map bare_component L.components
-  pub component_stamps : map (λ c. c.stamp) K.components ≡ map (λ c. c.stamp) L.components
+  pub components : AllZip IsAlikeComponent K.components L.components
   pub users : K.users ≡ L.users
   pub roles : K.roles ≡ L.roles
+
+-- ---- putting or dropping a record changes the stamp under its own key alone
+
+-- a put record brings its stamp, a dropped one leaves 0, and all other stamps stay; roles have none
+pub record StampsFollow (S : Kept) : Type 0 where
+  pub put_table : (t : TableRec) (k : Key) → look (with_kept_table t S) k ≡ (if same_key (keys.Table t.name) (record_key k) then t.stamp else look S k)
+  pub put_policy : (p : PolicyRec) (k : Key) → look (with_kept_policy p S) k ≡ (if same_key (keys.Policy p.name) (record_key k) then p.stamp else look S k)
+  pub put_component : (c : ComponentRec) (k : Key) → look (with_kept_component c S) k ≡ (if same_key (keys.Component c.name) (record_key k) then c.stamp else look S k)
+  pub put_user : (u : UserRec) (k : Key) → look (with_kept_user u S) k ≡ (if same_key (keys.User u.name) (record_key k) then u.stamp else look S k)
+  pub put_role : (r : RoleRec) (k : Key) → look (with_kept_role r S) k ≡ look S k
+  pub drop_table : (n : List ℕ) (k : Key) → look (without_kept_table n S) k ≡ (if same_key (keys.Table n) (record_key k) then 0 else look S k)
+  pub drop_policy : (n : List ℕ) (k : Key) → look (without_kept_policy n S) k ≡ (if same_key (keys.Policy n) (record_key k) then 0 else look S k)
+  pub drop_component : (n : List ℕ) (k : Key) → look (without_kept_component n S) k ≡ (if same_key (keys.Component n) (record_key k) then 0 else look S k)
+  pub drop_role : (n : List ℕ) (k : Key) → look (without_kept_role n S) k ≡ look S k
 
 -- ---- taking the stamps away, and looking up, putting or dropping a record, come to the same in either order
 

@@ -13,13 +13,13 @@ use lb_cat::{Catalog, ColumnRec};
 use lb_names::Seen;
 use lb_tree::{Column, Tab};
 
-/// What a column's name means.
+/// What a column's name means. The column is lent by the catalogue, so it outlives what is in sight.
 #[derive(Clone, Copy)]
-pub enum Meaning<'a> {
+pub enum Meaning<'s, 'c> {
     /// The FROM item, and its column.
-    Found(&'a Seen, &'a ColumnRec),
+    Found(&'s Seen, &'c ColumnRec),
     /// The name that is unknown: the column's, or its correlation name.
-    Unknown(&'a Name),
+    Unknown(&'s Name),
 }
 
 /// Whether there is a table of that name.
@@ -76,7 +76,7 @@ fn is_among(name: &Name, columns: &[ColumnRec]) -> bool
     false
 }
 
-fn column_of<'a>(catalog: &'a Catalog, name: &'a Name, item: &'a Seen) -> Meaning<'a>
+fn column_of<'s, 'c>(catalog: &'c Catalog, name: &'s Name, item: &'s Seen) -> Meaning<'s, 'c>
     ensures { meaning_in result ≡ scopes.column_of (catalogue catalog.now) name.now item.now }
 {
     match column_named(name, columns_of(catalog, &item.tab)) {
@@ -86,12 +86,12 @@ fn column_of<'a>(catalog: &'a Catalog, name: &'a Name, item: &'a Seen) -> Meanin
 }
 
 /// What `by.name` means: it belongs to the innermost query whose FROM has that correlation name (identifiers).
-fn qualified<'a>(
-    catalog: &'a Catalog,
-    by: &'a Name,
-    name: &'a Name,
-    seen: &'a [Seen],
-) -> Meaning<'a>
+fn qualified<'s, 'c>(
+    catalog: &'c Catalog,
+    by: &'s Name,
+    name: &'s Name,
+    seen: &'s [Seen],
+) -> Meaning<'s, 'c>
     ensures { meaning_in result ≡ scopes.qualified (catalogue catalog.now) by.now name.now seen.now }
 {
     for item in seen {
@@ -123,7 +123,7 @@ fn behind(seen: &[Seen], place: usize) -> &[Seen]
 
 /// What a name without a correlation name means: it belongs to the innermost query in which some FROM item has that column, where
 /// only one of its items has it (identifiers).
-fn unqualified<'a>(catalog: &'a Catalog, name: &'a Name, seen: &'a [Seen]) -> Meaning<'a>
+fn unqualified<'s, 'c>(catalog: &'c Catalog, name: &'s Name, seen: &'s [Seen]) -> Meaning<'s, 'c>
     ensures { meaning_in result ≡ scopes.unqualified (catalogue catalog.now) name.now seen.now }
 {
     for (place, item) in seen.iter().enumerate() {
@@ -138,7 +138,7 @@ fn unqualified<'a>(catalog: &'a Catalog, name: &'a Name, seen: &'a [Seen]) -> Me
 }
 
 /// What the column's name means where these items are in sight.
-pub fn resolve<'a>(catalog: &'a Catalog, seen: &'a [Seen], column: &'a Column) -> Meaning<'a>
+pub fn resolve<'s, 'c>(catalog: &'c Catalog, seen: &'s [Seen], column: &'s Column) -> Meaning<'s, 'c>
     ensures { meaning_in result ≡ scopes.resolve (catalogue catalog.now) seen.now column.now }
 {
     match &column.correlation {
