@@ -1,5 +1,6 @@
 -- Columns and the outputs that they take, pair by pair.
-use Rattle.std.proofs.Common.{ℕ, ◌≡◌, ◌<◌, refl, ap, ◌∙◌, List, [], ◌∷◌, Bool, true, false, ◌&&◌, map, drop, suc, length, get_or, absurd, arith}
+use Rattle.std.proofs.Common.{ℕ, ◌≡◌, ◌<◌, refl, ap, sym, ◌∙◌, List, [], ◌∷◌, Bool, true, false, ◌&&◌, map, drop, suc, length, get_or, arith}
+use Rattle.std.specs.List.{drop-map}
 use Rattle.std.proofs.Math.Seq.{drop-cons}
 use Rattle.lb_names.specs.Kinds.{takes}
 use Rattle.lb_names.specs.SelectLists.{each_takes}
@@ -20,3 +21,7 @@ takes_too_many (w ∷ ws) (k ∷ ks) h = ap (λ b. takes (kind_in w) (kind_in k)
   never : (b : Bool) → (b && false) ≡ false
   never true = refl
   never false = refl
+
+-- what is left of kinds
+pub drop_kinds : (n : ℕ) (ks : List Kind) → kinds_in (drop n ks) ≡ drop n (kinds_in ks)
+drop_kinds n ks = sym (drop-map kind_in n ks)

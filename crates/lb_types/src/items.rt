@@ -200,6 +200,7 @@ fn wanted_after<'a>(wanted: Wanted<'a>, outputs: usize) -> Wanted<'a>
 }
 
 /// The columns that are still to take an output after so many.
+#[tactic(auto, using(crate::proofs::Pairs::drop_kinds))]
 fn rest_of<'a>(columns: Option<&'a [Kind<'a>]>, outputs: usize) -> Option<&'a [Kind<'a>]>
     ensures { lent_kinds result ≡ lists.rest_of (lent_kinds columns.entry) outputs }
 {

@@ -37,6 +37,16 @@ both_own E r whole p q s h k l = subst (λ z. IfOk r (λ own. own ≡ z)) (sym (
 pub second_not : (whole p q s : Bool) → whole ≡ (p && (q && s)) → true ≡ p → false ≡ q → false ≡ whole
 second_not whole p q s h k l = sym (h ∙ (λ i. sym k i && (sym l i && s)))
 
+-- of a query: three, four and five parts
+pub third_not : (whole p q s t : Bool) → whole ≡ (p && (q && (s && t))) → true ≡ p → true ≡ q → false ≡ s → false ≡ whole
+third_not whole p q s t h k l m = sym (h ∙ (λ i. sym k i && (sym l i && (sym m i && t))))
+
+pub fourth_not : (whole p q s t w : Bool) → whole ≡ (p && (q && (s && (t && w)))) → true ≡ p → true ≡ q → true ≡ s → false ≡ t → false ≡ whole
+fourth_not whole p q s t w h k l m n = sym (h ∙ (λ i. sym k i && (sym l i && (sym m i && (sym n i && w)))))
+
+pub five_own : (E : Type 0) (r : Result Bool E) (whole p q s t w : Bool) → whole ≡ (p && (q && (s && (t && w)))) → true ≡ p → true ≡ q → true ≡ s → true ≡ t → IfOk r (λ own. own ≡ w) → IfOk r (λ own. own ≡ whole)
+five_own E r whole p q s t w h k l m n = subst (λ z. IfOk r (λ own. own ≡ z)) (sym (h ∙ (λ i. sym k i && (sym l i && (sym m i && (sym n i && w))))))
+
 module _ (C : Catalogue) (level : ℕ) (v : Sight) where
   abbrev pub own : Expr → Bool
   own e = all_own C level ((means C e).marks v)

@@ -11,7 +11,7 @@ use Rattle.lb_names.specs.Sights.{Name, Sight, inside, inside_on, calls_of, corr
 use Rattle.lb_names.specs.Marks.{Marks, JoinMarks, ChainMarks, marked, mark_steps, tables_of, tables_of_chain, joins_marks, chains_marks, of_each, of_any, column}
 use Rattle.lb_names.specs.Scopes.{Catalogue}
 use Rattle.lb_names.specs.Passes.{all_own, is_own}
-use Rattle.lb_names.specs.Carriers.{chain_marked, Says, Shows}
+use Rattle.lb_names.specs.Carriers.{chain_marked, Says, Shows, Answers}
 use Rattle.lb_names.specs.Typing.{steps, says, shows, chains, answers}
 use Rattle.lb_names.proofs.Carried.{carried_chain}
 use Rattle.lb_walk.specs.Opened.{chain_of, own_joins, own_chains}
@@ -44,37 +44,27 @@ module _ (C : Catalogue) where
     chains_are outer all before (ch ∷ cs) = split (joins_marks outer all (before ++ correlation ch.first ∷ []) (ch.first ∷ []) ch.joins) (chains_marks outer all (before ++ calls_of (tables_of_chain ch)) cs)
         ∙ (λ i. joins_are outer all (before ++ correlation ch.first ∷ []) (ch.first ∷ []) ch.joins i && chains_are outer all (before ++ calls_of (tables_of_chain ch)) cs i)
 
-    -- five parts in their order
-    five : (i f w g h : Bool) → ((((i && f) && w) && g) && h) ≡ (i && (f && (w && (g && h))))
-    five false f w g h = refl
-    five true false w g h = refl
-    five true true false g h = refl
-    five true true true false h = refl
-    five true true true true h = refl
-
     parts : (i f w g h : Marks) → all_own C level (i ++ (f ++ (w ++ (g ++ h)))) ≡ (all_own C level i && (all_own C level f && (all_own C level w && (all_own C level g && all_own C level h))))
     parts i f w g h = split i (f ++ (w ++ (g ++ h))) ∙ ap (λ b. all_own C level i && b) (split f (w ++ (g ++ h)) ∙ ap (λ b. all_own C level f && b) (split w (g ++ h) ∙ ap (λ b. all_own C level w && b) (split g h)))
 
-    -- the columns of a query are those of its parts
-    pub query_is_own : (x : Query) (v u : Sight) (i f w g h : Bool)
-        → u ≡ inside v (tables_of (map (folds.chain_of marked mark_steps) (out-Query x).from))
-        → i ≡ all_own C level (of_each (λ (m : Shows). m.marks) (map (shows C) (out-Query x).items) u)
-        → ((all : List Name) → u.around ≡ all ++ v.around → f ≡ own_chains C level v all (map chain_marked (map (chain_of C) (out-Query x).from)))
-        → w ≡ all_own C level (of_any (λ (m : Says). m.marks) (option_map (says C) (out-Query x).filter) u)
-        → g ≡ all_own C level (map (column u.seen) (out-Query x).group)
-        → h ≡ all_own C level (of_any (λ (m : Says). m.marks) (option_map (says C) (out-Query x).having) u)
-        → ((((i && f) && w) && g) && h) ≡ all_own C level ((answers C x).marks v)
-    query_is_own x v u i f w g h in_sight items from filter group having =
-        let tabs : List Tab = tables_of (map chain_marked (map (chain_of C) (out-Query x).from)) in
-        let there : u ≡ inside v tabs = in_sight ∙ ap (inside v) (sym (tables_are (out-Query x).from)) in
-        let fi : i ≡ all_own C level (of_each (λ (m : Shows). m.marks) (map (shows C) (out-Query x).items) (inside v tabs)) = items ∙ ap (λ z. all_own C level (of_each (λ (m : Shows). m.marks) (map (shows C) (out-Query x).items) z)) there in
-        let ff : f ≡ all_own C level (chains_marks v (calls_of tabs) [] (map chain_marked (map (chain_of C) (out-Query x).from))) = from (calls_of tabs) (ap (λ (z : Sight). z.around) there) ∙ sym (chains_are v (calls_of tabs) [] (map chain_marked (map (chain_of C) (out-Query x).from))) in
-        let fw : w ≡ all_own C level (of_any (λ (m : Says). m.marks) (option_map (says C) (out-Query x).filter) (inside v tabs)) = filter ∙ ap (λ z. all_own C level (of_any (λ (m : Says). m.marks) (option_map (says C) (out-Query x).filter) z)) there in
-        let fg : g ≡ all_own C level (map (column (inside v tabs).seen) (out-Query x).group) = group ∙ ap (λ (z : Sight). all_own C level (map (column z.seen) (out-Query x).group)) there in
-        let fh : h ≡ all_own C level (of_any (λ (m : Says). m.marks) (option_map (says C) (out-Query x).having) (inside v tabs)) = having ∙ ap (λ z. all_own C level (of_any (λ (m : Says). m.marks) (option_map (says C) (out-Query x).having) z)) there in
-        five i f w g h ∙ (λ k. fi k && (ff k && (fw k && (fg k && fh k))))
-        ∙ sym (parts (of_each (λ (m : Shows). m.marks) (map (shows C) (out-Query x).items) (inside v tabs)) (chains_marks v (calls_of tabs) [] (map chain_marked (map (chain_of C) (out-Query x).from))) (of_any (λ (m : Says). m.marks) (option_map (says C) (out-Query x).filter) (inside v tabs)) (map (column (inside v tabs).seen) (out-Query x).group) (of_any (λ (m : Says). m.marks) (option_map (says C) (out-Query x).having) (inside v tabs)))
-        ∙ sym (ap (λ (a : _). all_own C level (a.marks v)) (answers_out C x))
+    -- the columns of a query whose clauses see that are those of its parts
+    pub query_is_own : (x : Query) (v u : Sight) → u ≡ inside v (tables_of (map (folds.chain_of marked mark_steps) (out-Query x).from))
+        → all_own C level ((answers C x).marks v)
+        ≡ (all_own C level (of_each (λ (m : Shows). m.marks) (map (shows C) (out-Query x).items) u)
+        && (own_chains C level v (calls_of (tables_of (map (folds.chain_of marked mark_steps) (out-Query x).from))) (map chain_marked (map (chain_of C) (out-Query x).from))
+        && (all_own C level (of_any (λ (m : Says). m.marks) (option_map (says C) (out-Query x).filter) u)
+        && (all_own C level (map (column u.seen) (out-Query x).group)
+        && all_own C level (of_any (λ (m : Says). m.marks) (option_map (says C) (out-Query x).having) u)))))
+    query_is_own x v u h =
+        ap (λ (a : Answers). all_own C level (a.marks v)) (answers_out C x)
+        ∙ ap (λ tabs. marks_over x v (inside v tabs) tabs) (tables_are (out-Query x).from)
+        ∙ ap (λ w. marks_over x v w (tables_of (map (folds.chain_of marked mark_steps) (out-Query x).from))) (sym h)
+        ∙ parts (of_each (λ (m : Shows). m.marks) (map (shows C) (out-Query x).items) u) (chains_marks v (calls_of (tables_of (map (folds.chain_of marked mark_steps) (out-Query x).from))) [] (map chain_marked (map (chain_of C) (out-Query x).from))) (of_any (λ (m : Says). m.marks) (option_map (says C) (out-Query x).filter) u) (map (column u.seen) (out-Query x).group) (of_any (λ (m : Says). m.marks) (option_map (says C) (out-Query x).having) u)
+        ∙ ap (λ f. all_own C level (of_each (λ (m : Shows). m.marks) (map (shows C) (out-Query x).items) u) && (f && (all_own C level (of_any (λ (m : Says). m.marks) (option_map (says C) (out-Query x).filter) u) && (all_own C level (map (column u.seen) (out-Query x).group) && all_own C level (of_any (λ (m : Says). m.marks) (option_map (says C) (out-Query x).having) u)))))
+            (chains_are v (calls_of (tables_of (map (folds.chain_of marked mark_steps) (out-Query x).from))) [] (map chain_marked (map (chain_of C) (out-Query x).from)))
+      where
+        marks_over : Query → Sight → Sight → List Tab → Bool
+        marks_over x v u tabs = all_own C level (of_each (λ (m : Shows). m.marks) (map (shows C) (out-Query x).items) u ++ (chains_marks v (calls_of tabs) [] (map chain_marked (map (chain_of C) (out-Query x).from)) ++ (of_any (λ (m : Says). m.marks) (option_map (says C) (out-Query x).filter) u ++ (map (column u.seen) (out-Query x).group ++ of_any (λ (m : Says). m.marks) (option_map (says C) (out-Query x).having) u))))
 
     -- the joins after the first one, and none where that one isn't own
     pub join_step : (outer : Sight) (all : List Name) (tabs more : List Tab) (j : JoinMarks) (js : List JoinMarks) → more ≡ tabs ++ j.tab ∷ [] → true ≡ all_own C level (j.on (inside_on outer all more))

@@ -1,6 +1,16 @@
 use Rattle.std.proofs.Common.{◌≡◌, refl, sym, ◌∙◌, ap, subst}
 use Rattle.std.specs.Prelude.{IfOk}
+use Rattle.std.proofs.Common.{map}
+use Rattle.lb_tree.specs.declared.query.Cond.TheViews.{out-Query}
+use Rattle.lb_tree.specs.Folds as folds
+use Rattle.lb_names.specs.Sights.{inside, calls_of}
+use Rattle.lb_names.specs.Marks.{marked, mark_steps, tables_of, of_each, column}
+use Rattle.lb_names.specs.Passes.{all_own}
+use Rattle.lb_names.specs.Carriers.{chain_marked}
+use Rattle.lb_names.specs.Typing.{shows}
 use Rattle.lb_scope.specs.Found.{catalogue}
+use Rattle.lb_walk.specs.Opened.{chain_of, own_chains}
+use Rattle.lb_walk.proofs.OwnQueries.{query_is_own}
 use Rattle.lb_walk.proofs.OwnParts as parts
 use Rattle.lb_walk.proofs.own.+own.Goals as goal
 
@@ -66,3 +76,18 @@ expr_own-returns-in-Aggregate t c = subst (λ z. IfOk c.expr_own-in-Aggregate.re
 
 pub expr_own-returns-in-Apply : goal.expr_own-returns-in-Apply
 expr_own-returns-in-Apply t c = subst (λ z. IfOk c.expr_own-in-Apply.result (λ own. own ≡ z)) (parts.apply_own (catalogue c.args.catalog.now) c.args.level c.args.sight.now c.args.expr.now c.in-Apply.field-0 c.in-Apply.to c.get-in-Apply.result.now c.in-Apply.is c.get-in-Apply.ensures) c.expr_own-in-Apply.ensures
+
+pub query_own-returns-then-not-branch : goal.query_own-returns-then-not-branch
+query_own-returns-then-not-branch t c = parts.first_not _ _ _ (query_is_own (catalogue c.args.catalog.now) c.args.level c.args.query.now c.args.sight.now c.in_ok-inside.inside (c.in_ok-inside.ensures ∙ ap (λ cs. inside c.args.sight.now (tables_of (map (folds.chain_of marked mark_steps) cs))) c.as_slice.ensures)) (sym c.if-not-branch.true ∙ c.in_ok-items_own.ensures ∙ ap (λ xs. all_own (catalogue c.args.catalog.now) c.args.level (of_each (λ m. m.marks) (map (shows (catalogue c.args.catalog.now)) xs) c.in_ok-inside.inside)) c.as_slice-2.ensures)
+
+pub query_own-returns-then-not-branch-2 : goal.query_own-returns-then-not-branch-2
+query_own-returns-then-not-branch-2 t c = parts.second_not _ _ _ _ (query_is_own (catalogue c.args.catalog.now) c.args.level c.args.query.now c.args.sight.now c.in_ok-inside.inside (c.in_ok-inside.ensures ∙ ap (λ cs. inside c.args.sight.now (tables_of (map (folds.chain_of marked mark_steps) cs))) c.as_slice.ensures)) (sym c.if-not-branch.false ∙ c.in_ok-items_own.ensures ∙ ap (λ xs. all_own (catalogue c.args.catalog.now) c.args.level (of_each (λ m. m.marks) (map (shows (catalogue c.args.catalog.now)) xs) c.in_ok-inside.inside)) c.as_slice-2.ensures) (sym c.if-not-branch-2.true ∙ c.in_ok-chains_own.ensures (calls_of (tables_of (map (folds.chain_of marked mark_steps) (out-Query c.args.query.now).from))) (ap (λ v. v.around) (c.in_ok-inside.ensures ∙ ap (λ cs. inside c.args.sight.now (tables_of (map (folds.chain_of marked mark_steps) cs))) c.as_slice.ensures)) ∙ ap (λ cs. own_chains (catalogue c.args.catalog.now) c.args.level c.args.sight.now (calls_of (tables_of (map (folds.chain_of marked mark_steps) (out-Query c.args.query.now).from))) (map chain_marked (map (chain_of (catalogue c.args.catalog.now)) cs))) c.as_slice-3.ensures)
+
+pub query_own-returns-then-not-branch-3 : goal.query_own-returns-then-not-branch-3
+query_own-returns-then-not-branch-3 t c = parts.third_not _ _ _ _ _ (query_is_own (catalogue c.args.catalog.now) c.args.level c.args.query.now c.args.sight.now c.in_ok-inside.inside (c.in_ok-inside.ensures ∙ ap (λ cs. inside c.args.sight.now (tables_of (map (folds.chain_of marked mark_steps) cs))) c.as_slice.ensures)) (sym c.if-not-branch.false ∙ c.in_ok-items_own.ensures ∙ ap (λ xs. all_own (catalogue c.args.catalog.now) c.args.level (of_each (λ m. m.marks) (map (shows (catalogue c.args.catalog.now)) xs) c.in_ok-inside.inside)) c.as_slice-2.ensures) (sym c.if-not-branch-2.false ∙ c.in_ok-chains_own.ensures (calls_of (tables_of (map (folds.chain_of marked mark_steps) (out-Query c.args.query.now).from))) (ap (λ v. v.around) (c.in_ok-inside.ensures ∙ ap (λ cs. inside c.args.sight.now (tables_of (map (folds.chain_of marked mark_steps) cs))) c.as_slice.ensures)) ∙ ap (λ cs. own_chains (catalogue c.args.catalog.now) c.args.level c.args.sight.now (calls_of (tables_of (map (folds.chain_of marked mark_steps) (out-Query c.args.query.now).from))) (map chain_marked (map (chain_of (catalogue c.args.catalog.now)) cs))) c.as_slice-3.ensures) (sym c.if-not-branch-3.true ∙ c.in_ok-maybe_cond_own.ensures)
+
+pub query_own-returns-then-not-columns_own : goal.query_own-returns-then-not-columns_own
+query_own-returns-then-not-columns_own t c = parts.fourth_not _ _ _ _ _ _ (query_is_own (catalogue c.args.catalog.now) c.args.level c.args.query.now c.args.sight.now c.in_ok-inside.inside (c.in_ok-inside.ensures ∙ ap (λ cs. inside c.args.sight.now (tables_of (map (folds.chain_of marked mark_steps) cs))) c.as_slice.ensures)) (sym c.if-not-branch.false ∙ c.in_ok-items_own.ensures ∙ ap (λ xs. all_own (catalogue c.args.catalog.now) c.args.level (of_each (λ m. m.marks) (map (shows (catalogue c.args.catalog.now)) xs) c.in_ok-inside.inside)) c.as_slice-2.ensures) (sym c.if-not-branch-2.false ∙ c.in_ok-chains_own.ensures (calls_of (tables_of (map (folds.chain_of marked mark_steps) (out-Query c.args.query.now).from))) (ap (λ v. v.around) (c.in_ok-inside.ensures ∙ ap (λ cs. inside c.args.sight.now (tables_of (map (folds.chain_of marked mark_steps) cs))) c.as_slice.ensures)) ∙ ap (λ cs. own_chains (catalogue c.args.catalog.now) c.args.level c.args.sight.now (calls_of (tables_of (map (folds.chain_of marked mark_steps) (out-Query c.args.query.now).from))) (map chain_marked (map (chain_of (catalogue c.args.catalog.now)) cs))) c.as_slice-3.ensures) (sym c.if-not-branch-3.false ∙ c.in_ok-maybe_cond_own.ensures) (sym c.if-not-columns_own.true ∙ c.columns_own.ensures ∙ (λ i. all_own (catalogue c.args.catalog.now) c.args.level (map (column (c.seen.ensures i)) (c.as_slice-4.ensures i))))
+
+pub query_own-returns : goal.query_own-returns
+query_own-returns t c = parts.five_own _ _ _ _ _ _ _ _ (query_is_own (catalogue c.args.catalog.now) c.args.level c.args.query.now c.args.sight.now c.in_ok-inside.inside (c.in_ok-inside.ensures ∙ ap (λ cs. inside c.args.sight.now (tables_of (map (folds.chain_of marked mark_steps) cs))) c.as_slice.ensures)) (sym c.if-not-branch.false ∙ c.in_ok-items_own.ensures ∙ ap (λ xs. all_own (catalogue c.args.catalog.now) c.args.level (of_each (λ m. m.marks) (map (shows (catalogue c.args.catalog.now)) xs) c.in_ok-inside.inside)) c.as_slice-2.ensures) (sym c.if-not-branch-2.false ∙ c.in_ok-chains_own.ensures (calls_of (tables_of (map (folds.chain_of marked mark_steps) (out-Query c.args.query.now).from))) (ap (λ v. v.around) (c.in_ok-inside.ensures ∙ ap (λ cs. inside c.args.sight.now (tables_of (map (folds.chain_of marked mark_steps) cs))) c.as_slice.ensures)) ∙ ap (λ cs. own_chains (catalogue c.args.catalog.now) c.args.level c.args.sight.now (calls_of (tables_of (map (folds.chain_of marked mark_steps) (out-Query c.args.query.now).from))) (map chain_marked (map (chain_of (catalogue c.args.catalog.now)) cs))) c.as_slice-3.ensures) (sym c.if-not-branch-3.false ∙ c.in_ok-maybe_cond_own.ensures) (sym c.if-not-columns_own.false ∙ c.columns_own.ensures ∙ (λ i. all_own (catalogue c.args.catalog.now) c.args.level (map (column (c.seen.ensures i)) (c.as_slice-4.ensures i)))) c.maybe_cond_own-2.ensures
