@@ -1,9 +1,31 @@
 -- Records without stamps are looked up, put and dropped as those with stamps.
-use Rattle.std.proofs.Common.{◌≡◌, refl, ap, Bool, true, false, cond, not, List, [], ◌∷◌, map, Some}
+use Rattle.std.proofs.Common.{◌≡◌, refl, ap, ◌∙◌, Bool, true, false, cond, not, ◌||◌, List, [], ◌∷◌, map, Option, None, Some, is_some}
+use Rattle.std.specs.List.{list_any}
 use Rattle.std.specs.Prelude.{find, option_map}
 use Rattle.lb_rows.specs.Lists.{put, without}
 use Rattle.lb_cat.specs.Catalog.{Table, Policy, Component, User, is_table, is_policy, is_component, is_user}
 use Rattle.lb_cat.specs.Stamps.{Kept, bare, bare_table, bare_policy, bare_component, bare_user, TablesAreBare, PoliciesAreBare, ComponentsAreBare, UsersAreBare, RolesAreBare}
+
+-- what a look-up gives, mapped twice
+pub mapped_twice : {A B C : Type 0} (g : B → C) (f : A → B) (r : Option A) → option_map (λ x. g (f x)) r ≡ option_map g (option_map f r)
+mapped_twice g f None = refl
+mapped_twice g f (Some x) = refl
+
+-- it finds something where one passes the test
+pub found_any : {A B : Type 0} (f : A → B) (is : B → Bool) (r : Option A) (xs : List B) → option_map f r ≡ find is xs → is_some r ≡ list_any is xs
+found_any {A = A} {B = B} f is r xs h = seen r ∙ ap is_some h ∙ passes xs
+  where
+    seen : (o : Option A) → is_some o ≡ is_some (option_map f o)
+    seen None = refl
+    seen (Some x) = refl
+
+    passes : (ys : List B) → is_some (find is ys) ≡ list_any is ys
+    passes [] = refl
+    passes (y ∷ ys) =
+        elim (is y) as (λ b. is_some (cond b (Some y) (find is ys)) ≡ b || list_any is ys) [
+          | true ↦ refl
+          | false ↦ passes ys
+        ]
 
 module _ {A B : Type 0} (f : A → B) (is : B → Bool) where
   pub find_mapped : (xs : List A) → find is (map f xs) ≡ option_map f (find (λ x. is (f x)) xs)

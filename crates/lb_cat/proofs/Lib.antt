@@ -1,1 +1,4 @@
 pub mod Bare
+pub mod ByName
+pub mod Marked
+pub mod Marking

@@ -1,5 +1,5 @@
 -- Records kept in a map by their names. It stands in private contracts alone.
-use Rattle.std.specs.Prelude.{ℕ, ◌≡◌, ◌×◌, Unit, List, [], ◌∷◌, Bool, if◌then◌else◌, map, string_bytes}
+use Rattle.std.specs.Prelude.{ℕ, ◌≡◌, true, false, List, [], ◌∷◌, map, string_bytes}
 use Rattle.std.specs.Arc.{arc_value}
 use Rattle.std.specs.declared.string.String.{String}
 use Rattle.std.specs.declared.sync.Arc.{Arc}
@@ -23,4 +23,4 @@ module _ {R : Type 0} where
 
   -- the second record is the first with the stamp where its key is among the keys, and else the first
   abbrev pub IsMarked : (R → Key) → (R → R → Type 0) → List Key → R → R → Type 0
-  IsMarked key stamped ks old new = if has_key (key old) ks then stamped old new else (new ≡ old)
+  IsMarked key stamped ks old new = (has_key (key old) ks ≡ true → stamped old new) × (has_key (key old) ks ≡ false → new ≡ old)

@@ -1,7 +1,7 @@
 -- The records that the program keeps have stamps. The catalogue without them is `bare`.
 use Rattle.std.specs.Prelude.{ℕ, ◌≡◌, Bool, ◌&&◌, if◌then◌else◌, List, map, find, Option, None, Some, is_some, option_map}
 use Rattle.std.specs.Arc.{arc_value}
-use Rattle.std.specs.List.{list_any}
+use Rattle.std.specs.List.{list_any, AllZip}
 use Rattle.std.specs.Str.{bytes_eq}
 use Rattle.lb_base.specs.declared.key.Key.{Key}
 use Rattle.lb_base.specs.declared.key.Key.TheVariants as keys
@@ -192,8 +192,7 @@ IsAlikeComponent c d = (bare_component c ≡ bare_component d) × (c.stamp ≡ d
 pub record IsAlike (K L : Kept) : Type 0 where
   pub tables : K.tables ≡ L.tables
   pub policies : K.policies ≡ L.policies
-  pub components : map bare_component K.components ≡ map bare_component L.components
-  pub component_stamps : map (λ c. c.stamp) K.components ≡ map (λ c. c.stamp) L.components
+  pub components : AllZip IsAlikeComponent K.components L.components
   pub users : K.users ≡ L.users
   pub roles : K.roles ≡ L.roles
 

@@ -1,5 +1,6 @@
 // Copies of records in memory of their own: what a change of a record begins with.
 ghost use Rattle.std.specs.Prelude.{◌≡◌, IfOk};
+ghost use Rattle.lb_cat.specs.Stamps.{IsAlikeComponent};
 
 use crate::catalog::{
     ColumnRec, ComponentRec, Grant, Holding, LabelRec, MaskRec, PermissionRec, PolicyRec, RoleRec,
@@ -96,7 +97,7 @@ impl Copied for TableRec {
 }
 
 /// An equal label. It takes no memory.
-fn copy_parts(parts: &Parts) -> Parts
+pub fn copy_parts(parts: &Parts) -> Parts
     ensures { result ≡ parts.now }
 {
     let mut copied = ArrayVec::new();
@@ -131,9 +132,11 @@ impl Copied for PolicyRec {
     }
 }
 
-/// The component itself is shared.
-impl Copied for ComponentRec {
-    fn copy(&self, _alloc: Global) -> Result<Self, NoMemory> {
+impl ComponentRec {
+    /// An equal record in memory of its own. The component itself is shared.
+    pub fn copy(&self) -> Result<ComponentRec, NoMemory>
+        ensures { IfOk result (λ c. IsAlikeComponent c self.now) }
+    {
         let name = self.name.copy()?;
         let component = self.component.clone()?;
         Ok(ComponentRec {

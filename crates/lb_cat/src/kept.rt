@@ -31,6 +31,12 @@ impl Model for Catalog {
 
     ghost Value = { Kept };
 
+    ghost use Rattle.std.specs.Coded.{codes};
+    ghost use Rattle.lb_tree.specs.contracts.query.Cond as conditions;
+    ghost use Rattle.lb_tree.specs.contracts.query.Expr as expressions;
+
+    ghost coded = { Prim.hlevel (codes, conditions.the_row.coded, expressions.the_row.coded) };
+
     ghost view = { λ c. record { tables = c.tables; policies = c.policies; components = c.components; users = c.users; roles = c.roles } };
 }
 
@@ -115,22 +121,11 @@ impl Catalog {
         ensures { result ≡ kept.look self.now key.now }
     {
         match key {
-            Key::Table(name) | Key::Rows(name) => match self.tables.named(name) {
-                Some(table) => table.stamp,
-                None => 0,
-            },
-            Key::Policy(name) => match self.policies.named(name) {
-                Some(policy) => policy.stamp,
-                None => 0,
-            },
-            Key::Component(name) => match self.components.named(name) {
-                Some(component) => component.stamp,
-                None => 0,
-            },
-            Key::User(name) => match self.users.named(name) {
-                Some(user) => user.stamp,
-                None => 0,
-            },
+            Key::Table(name) => self.tables.stamp(name),
+            Key::Rows(name) => self.tables.stamp(name),
+            Key::Policy(name) => self.policies.stamp(name),
+            Key::Component(name) => self.components.stamp(name),
+            Key::User(name) => self.users.stamp(name),
         }
     }
 }
@@ -204,6 +199,14 @@ impl Catalog {
         ensures bare { option_map (λ r. bare_policy (arc_value r.now)) result ≡ cat.policy_named (bare self.now) name.now }
     {
         self.policies.named(name)
+    }
+
+    /// The policy whose name this text is, as calls of label functions give it. None exactly where there is none.
+    pub fn policy_called(&self, name: &str) -> Option<&Arc<PolicyRec>>
+        ensures kept { option_map (λ r. arc_value r.now) result ≡ kept.kept_policy self.now name.now }
+        ensures bare { option_map (λ r. bare_policy (arc_value r.now)) result ≡ cat.policy_named (bare self.now) name.now }
+    {
+        self.policies.spelled(name)
     }
 }
 

@@ -21,11 +21,11 @@ pub use catalog::{
     MaskRec, MaskRecs, PermissionRec, PermissionRecs, PolicyRec, Privileges, RoleRec, TableRec,
     UserRec,
 };
-pub use copies::{Copied, copy_records};
+pub use copies::{Copied, copy_parts, copy_records};
 pub use cred::{Cred, CredLabel, CredLabels};
 pub use entry::{Entry, Said};
 pub use kept::Catalog;
 pub use keys::Keys;
-pub use laws::records_are_bare;
+pub use laws::{marks_change_stamps_alone, records_are_bare};
 pub use refusal::{Flaw, LimitOf, NeededPrivilege, Refusal};
 pub use reply::{Reply, Verb};

@@ -61,25 +61,33 @@ impl Named for RoleRec {
 }
 
 /// A record with a stamp, which a key names.
-pub trait Stamped: Named + Copied {
-    ghost key: { Self → AnyKey };
+pub trait Stamped: Named {
+    ghost own_key: { Self → AnyKey };
+
+    ghost own_stamp: { Self → ℕ };
 
     // the second record is the first with this stamp
     ghost stamped: { ℕ → Self → Self → Type 0 };
 
     /// Whether this is the record's key.
     fn has_key(&self, key: &Key) -> bool
-        ensures { result ≡ same_key (Self.key self.now) key.now };
+        ensures { result ≡ same_key (own_key self.now) key.now };
+
+    /// Its stamp.
+    fn stamp(&self) -> u64
+        ensures { result ≡ own_stamp self.now };
 
     /// The record in memory of its own, with this stamp.
     fn with_stamp(&self, alloc: Global, stamp: u64) -> Result<Self, NoMemory>
         ensures { IfOk result (stamped stamp self.now) };
 
-    ghost keeps_name: { (stamp : ℕ) (old new : Self) → stamped stamp old new → name new ≡ name old };
+    ghost keeps_name: { (stamp : ℕ) (old new : Self) → stamped stamp old new → Self.name new ≡ Self.name old };
 }
 
 impl Stamped for TableRec {
-    ghost key = { λ r. keys.Table r.name };
+    ghost own_key = { λ r. keys.Table r.name };
+
+    ghost own_stamp = { λ r. r.stamp };
 
     ghost stamped = { λ stamp old new. new ≡ stamped_table stamp old };
 
@@ -88,6 +96,10 @@ impl Stamped for TableRec {
             Key::Table(name) => self.name.is(name),
             _ => false,
         }
+    }
+
+    fn stamp(&self) -> u64 {
+        self.stamp
     }
 
     fn with_stamp(&self, alloc: Global, stamp: u64) -> Result<Self, NoMemory> {
@@ -100,7 +112,9 @@ impl Stamped for TableRec {
 }
 
 impl Stamped for PolicyRec {
-    ghost key = { λ r. keys.Policy r.name };
+    ghost own_key = { λ r. keys.Policy r.name };
+
+    ghost own_stamp = { λ r. r.stamp };
 
     ghost stamped = { λ stamp old new. new ≡ stamped_policy stamp old };
 
@@ -109,6 +123,10 @@ impl Stamped for PolicyRec {
             Key::Policy(name) => self.name.is(name),
             _ => false,
         }
+    }
+
+    fn stamp(&self) -> u64 {
+        self.stamp
     }
 
     fn with_stamp(&self, alloc: Global, stamp: u64) -> Result<Self, NoMemory> {
@@ -121,7 +139,9 @@ impl Stamped for PolicyRec {
 }
 
 impl Stamped for ComponentRec {
-    ghost key = { λ r. keys.Component r.name };
+    ghost own_key = { λ r. keys.Component r.name };
+
+    ghost own_stamp = { λ r. r.stamp };
 
     ghost stamped = { λ stamp old new. IsAlikeComponent new (stamped_component stamp old) };
 
@@ -132,21 +152,23 @@ impl Stamped for ComponentRec {
         }
     }
 
+    fn stamp(&self) -> u64 {
+        self.stamp
+    }
+
     fn with_stamp(&self, _alloc: Global, stamp: u64) -> Result<Self, NoMemory> {
-        let name = self.name.copy()?;
-        let component = self.component.clone()?;
-        Ok(ComponentRec {
-            name,
-            component,
-            stamp,
-        })
+        let mut copy = self.copy()?;
+        copy.stamp = stamp;
+        Ok(copy)
     }
 
     ghost keeps_name = { λ stamp old new h. ap (λ c. c.name) h.0 };
 }
 
 impl Stamped for UserRec {
-    ghost key = { λ r. keys.User r.name };
+    ghost own_key = { λ r. keys.User r.name };
+
+    ghost own_stamp = { λ r. r.stamp };
 
     ghost stamped = { λ stamp old new. new ≡ stamped_user stamp old };
 
@@ -155,6 +177,10 @@ impl Stamped for UserRec {
             Key::User(name) => self.name.is(name),
             _ => false,
         }
+    }
+
+    fn stamp(&self) -> u64 {
+        self.stamp
     }
 
     fn with_stamp(&self, alloc: Global, stamp: u64) -> Result<Self, NoMemory> {

@@ -7,6 +7,7 @@ ghost use Rattle.std.specs.Str.{bytes_eq};
 ghost use Rattle.lb_rows.specs.Lists.{put, without};
 ghost use Rattle.lb_cat.specs.Keys.{has_key};
 ghost use Rattle.lb_cat.specs.Records.{IsMarked};
+ghost use Rattle.lb_cat.specs.Stamps.{stamp_or};
 
 use crate::keys::Keys;
 use crate::named::{Named, Stamped};
@@ -58,6 +59,8 @@ impl<R: Named> Records<R> {
     pub fn remove(&mut self, name: &Name)
         ensures { self.new ≡ without (λ x. bytes_eq (R.name x) name.now) self.old }
     {
+        // `len` is called for its clause that the keys differ, which the proof cites.
+        let _count = self.records.len();
         self.records.shift_remove(name.as_str());
     }
 
@@ -73,7 +76,14 @@ impl<R: Named> Records<R> {
     pub fn named(&self, name: &Name) -> Option<&Arc<R>>
         ensures { option_map (λ r. arc_value r.now) result ≡ find (λ x. bytes_eq (R.name x) name.now) self.now }
     {
-        self.records.get(name.as_str())
+        self.spelled(name.as_str())
+    }
+
+    /// The record whose name this text is, and `None` exactly where there is none.
+    pub fn spelled(&self, name: &str) -> Option<&Arc<R>>
+        ensures { option_map (λ r. arc_value r.now) result ≡ find (λ x. bytes_eq (R.name x) name.now) self.now }
+    {
+        self.records.get(name)
     }
 
     /// The same records once more, which are shared.
@@ -91,6 +101,14 @@ impl<R: Named> Records<R> {
         self.records.len()
     }
 
+    /// The record in this place.
+    fn held(&self, place: usize) -> &Arc<R>
+        requires { place < length self.now }
+        ensures { slice_get self.now place ≡ Some (arc_value result.now) }
+    {
+        &self.records[place]
+    }
+
     /// Another record in the place of the one of its name.
     fn set(&mut self, place: usize, rec: Arc<R>)
         requires there { place < length self.old }
@@ -102,26 +120,52 @@ impl<R: Named> Records<R> {
 }
 
 impl<R: Stamped> Records<R> {
+    /// The stamp of the record of this name, and 0 where there is none.
+    pub fn stamp(&self, name: &Name) -> u64
+        ensures { result ≡ stamp_or R.own_stamp (find (λ x. bytes_eq (R.name x) name.now) self.now) }
+    {
+        match self.named(name) {
+            Some(record) => record.stamp(),
+            None => 0,
+        }
+    }
+
     /// The records, of which those whose keys are among these have this stamp.
     pub fn marked(&self, keys: &Keys, stamp: u64) -> Result<Records<R>, NoMemory>
-        ensures { IfOk result (AllZip (IsMarked R.key (R.stamped stamp) keys.now) self.now) }
+        ensures { IfOk result (AllZip (IsMarked R.own_key (R.stamped stamp) keys.now) self.now) }
     {
         let alloc = *self.records.allocator();
         let mut marked = self.copy()?;
         for place in 0..self.len() {
-            if let Some(record) = self.at(place) {
-                if is_among::<R>(record, keys.as_slice()) {
-                    marked.set(place, Arc::new(alloc, record.with_stamp(alloc, stamp)?)?);
-                }
-            }
+            let rec = marked_record(alloc, self.held(place), keys.as_slice(), stamp)?;
+            marked.set(place, rec);
         }
         Ok(marked)
     }
 }
 
+/// The record, with this stamp where its key is among these.
+fn marked_record<R: Stamped>(
+    alloc: Global,
+    rec: &Arc<R>,
+    keys: &[Key],
+    stamp: u64,
+) -> Result<Arc<R>, NoMemory>
+    ensures marked { IfOk result (λ r. IsMarked R.own_key (R.stamped stamp) keys.now (arc_value rec.now) (arc_value r)) }
+    ensures name { IfOk result (λ r. R.name (arc_value r) ≡ R.name (arc_value rec.now)) }
+{
+    if is_among::<R>(rec, keys) {
+        let rec = Arc::new(alloc, rec.with_stamp(alloc, stamp)?)?;
+        Ok(rec)
+    } else {
+        let rec = rec.clone()?;
+        Ok(rec)
+    }
+}
+
 /// Whether the record's key is among these.
 fn is_among<R: Stamped>(rec: &R, keys: &[Key]) -> bool
-    ensures { result ≡ has_key (R.key rec.now) keys.now }
+    ensures { result ≡ has_key (R.own_key rec.now) keys.now }
 {
     for key in keys {
         if rec.has_key(key) {
