@@ -1,3 +1,4 @@
 mod Nodes
 mod Rules
 mod Stopping
+mod Whole

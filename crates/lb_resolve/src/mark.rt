@@ -38,18 +38,6 @@ pub struct Walk<'a> {
     pub pass: Pass,
 }
 
-impl<'a> Walk<'a> {
-    /// A pass over a text.
-    pub fn new(alloc: Global, catalog: &'a Catalog, stored: bool, pass: Pass) -> Walk<'a> {
-        Walk {
-            alloc,
-            catalog,
-            stored,
-            pass,
-        }
-    }
-}
-
 impl Walk<'_> {
     /// Asks a FROM item that stands after these correlation names of its query; those of the enclosing queries are around.
     pub fn ask_table(&self, before: &[Name], around: &[Name], tab: &Tab) -> Result<(), Stop>
