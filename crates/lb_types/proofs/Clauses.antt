@@ -80,3 +80,46 @@ module _ (C : Catalogue) where
       ∙ ap (λ tabs. shown_in P (inside P.sight tabs) (groups_in x R (inside P.sight tabs) P.groups)) (tables_are C (out-Query x).from)
       ∙ ap (λ w. shown_in P w (groups_in x R w P.groups)) (sym seen)
       ∙ (λ i. shown_in P v (sym grouped i))
+
+  -- a query that stops at one of its clauses, and one that goes to its end
+  module _ (x : Query) (R : Role) (P : Place) (at : ℕ) (tabs : List Tab) (shown filter having : Place) (W : Wanted) where
+    abbrev items_first : Typed (List Kind)
+    items_first = outputs_of (map (shows C) (out-Query x).items) [] W shown (next at)
+
+    abbrev from_next : ℕ → Typed (Unit {0})
+    from_next n = chains_typed P (calls_of tabs) (map (chain_of C) (out-Query x).from) n
+
+    abbrev where_next : ℕ → Typed (Unit {0})
+    where_next n = maybe_typed (option_map (says C) (out-Query x).filter) filter n
+
+    abbrev group_next : ℕ → Typed (Unit {0})
+    group_next n = group_typed C filter (out-Query x).group n
+
+    abbrev having_next : ℕ → Typed (Unit {0})
+    having_next n = maybe_typed (option_map (says C) (out-Query x).having) having n
+
+    abbrev last : List Kind → ℕ → Typed (List Kind)
+    last ks n = only_if (query_fits R P ks) at (ks, n)
+
+    abbrev whole : Typed (List Kind)
+    whole = over x R P at tabs shown filter having W
+
+    pub after_items : (ks : List Kind × ℕ) → items_first ≡ Ok ks
+        → whole ≡ (from_next ks.1 >>= λ f. where_next f.1 >>= λ w. group_next w.1 >>= λ g. having_next g.1 >>= λ h. last ks.0 h.1)
+    after_items ks h = ap (λ (y : Typed (List Kind)). y >>= λ ks. from_next ks.1 >>= λ f. where_next f.1 >>= λ w. group_next w.1 >>= λ g. having_next g.1 >>= λ h. last ks.0 h.1) h
+
+    pub after_from : (ks : List Kind × ℕ) (n : ℕ) → items_first ≡ Ok ks → from_next ks.1 ≡ Ok (tt, n)
+        → whole ≡ (where_next n >>= λ w. group_next w.1 >>= λ g. having_next g.1 >>= λ h. last ks.0 h.1)
+    after_from ks n h k = after_items ks h ∙ ap (λ (y : Typed (Unit {0})). y >>= λ f. where_next f.1 >>= λ w. group_next w.1 >>= λ g. having_next g.1 >>= λ h. last ks.0 h.1) k
+
+    pub after_where : (ks : List Kind × ℕ) (n m : ℕ) → items_first ≡ Ok ks → from_next ks.1 ≡ Ok (tt, n) → where_next n ≡ Ok (tt, m)
+        → whole ≡ (group_next m >>= λ g. having_next g.1 >>= λ h. last ks.0 h.1)
+    after_where ks n m h k l = after_from ks n h k ∙ ap (λ (y : Typed (Unit {0})). y >>= λ w. group_next w.1 >>= λ g. having_next g.1 >>= λ h. last ks.0 h.1) l
+
+    pub after_group : (ks : List Kind × ℕ) (n m i : ℕ) → items_first ≡ Ok ks → from_next ks.1 ≡ Ok (tt, n) → where_next n ≡ Ok (tt, m) → group_next m ≡ Ok (tt, i)
+        → whole ≡ (having_next i >>= λ h. last ks.0 h.1)
+    after_group ks n m i h k l p = after_where ks n m h k l ∙ ap (λ (y : Typed (Unit {0})). y >>= λ g. having_next g.1 >>= λ h. last ks.0 h.1) p
+
+    pub after_having : (ks : List Kind × ℕ) (n m i j : ℕ) → items_first ≡ Ok ks → from_next ks.1 ≡ Ok (tt, n) → where_next n ≡ Ok (tt, m) → group_next m ≡ Ok (tt, i) → having_next i ≡ Ok (tt, j)
+        → whole ≡ last ks.0 j
+    after_having ks n m i j h k l p q = after_group ks n m i h k l p ∙ ap (λ (y : Typed (Unit {0})). y >>= λ h. last ks.0 h.1) q

@@ -183,9 +183,7 @@ fn kinds_of_all<'a>(
 {
     let mut kinds = Listing::empty(alloc);
     for column in columns {
-        if let Some(found) = column_named(&column.name, columns) {
-            kinds.push(kind_of_type(&found.ty))?;
-        }
+        kinds = with_kind_of(kinds, column_named(&column.name, columns))?;
     }
     Ok(kinds)
 }
@@ -200,11 +198,26 @@ fn kinds_wanted<'a>(
 {
     let mut kinds = Listing::empty(alloc);
     for name in names {
-        if let Some(found) = column_named(name, columns) {
-            kinds.push(kind_of_type(&found.ty))?;
-        }
+        kinds = with_kind_of(kinds, column_named(name, columns))?;
     }
     Ok(kinds)
+}
+
+/// These kinds, and then that of the column, where there is one.
+fn with_kind_of<'a>(
+    kinds: Listing<Kind<'a>>,
+    column: Option<&'a ColumnRec>,
+) -> Result<Listing<Kind<'a>>, NoMemory>
+    ensures { IfOk result (λ k. kinds_in k ≡ kinds_in kinds.entry ++ statements.kind_in (option_map field_of (option_copied column.entry))) }
+{
+    let mut all = kinds;
+    match column {
+        None => Ok(all),
+        Some(column) => {
+            all.push(kind_of_type(&column.ty))?;
+            Ok(all)
+        }
+    }
 }
 
 /// The rows of VALUES, each in its turn.
