@@ -2,7 +2,7 @@
 ghost use Rattle.std.specs.Prelude.{◌≡◌, option_map};
 ghost use Rattle.std.specs.List.{list_any};
 ghost use Rattle.std.specs.Option.{option_copied};
-ghost use Rattle.lb_tree.specs.declared.query.Cond.TheViews.{out-Expr, out-Item, out-Query};
+ghost use Rattle.lb_tree.specs.declared.query.Cond.TheViews.{out-Expr, out-Item};
 ghost use Rattle.lb_names.specs.OrderTyping as orders;
 ghost use Rattle.lb_names.specs.Scopes.{Catalogue};
 ghost use Rattle.lb_names.specs.SortNames as sorts;
@@ -15,7 +15,7 @@ use lb_base::Name;
 use lb_cat::Catalog;
 use lb_same::is_same_expr;
 use lb_scope::{Meaning, Sight, correlation, meant, position, resolve};
-use lb_tree::{Atom, Column, Expr, Item, Query, Select, SortKey};
+use lb_tree::{Atom, Column, Expr, Item, Select, SortKey};
 use lb_types::{Kind, Place, Role, Stop, groups_of, is_label, kind_of, kinds_of, next, shown_place};
 use lb_walk::expr_has_total;
 use std::alloc::Global;
@@ -91,23 +91,33 @@ fn is_selected(catalog: &Catalog, place: Place<'_>, items: &[Item], expr: &Expr)
     false
 }
 
+/// The select list of a query with ORDER BY, and where both stand.
+#[derive(Clone, Copy)]
+struct Shown<'a> {
+    place: Place<'a>,
+    distinct: bool,
+    items: &'a [Item],
+}
+
 /// A key that is an expression; with DISTINCT it equals a select item (order-by-clause).
+#[tactic(auto, using(crate::proofs::Tellings::stops_first))]
 fn expression_key(
     catalog: &Catalog,
     alloc: Global,
-    query: &Query,
-    place: Place<'_>,
+    shown: Shown<'_>,
     expr: &Expr,
     at: u32,
 ) -> Result<u32, Stop>
-    ensures { Goes result (orders.expression_key (catalogue catalog.now) (place_in (catalogue catalog.now) place.entry) (out-Query query.now).distinct (out-Query query.now).items expr.now at) }
+    ensures { Goes result (orders.expression_key (catalogue catalog.now) (place_in (catalogue catalog.now) shown.entry.place) shown.entry.distinct shown.entry.items.now expr.now at) }
 {
-    let (kind, n) = kind_of(catalog, alloc, expr, place, at)?;
-    if is_label(kind) || (query.distinct && !is_selected(catalog, place, query.items.as_slice(), expr)) {
-        Err(Stop::Broken(at))
-    } else {
-        Ok(n)
+    let (kind, n) = kind_of(catalog, alloc, expr, shown.place, at)?;
+    if is_label(kind) {
+        return Err(Stop::Broken(at));
     }
+    if shown.distinct && !is_selected(catalog, shown.place, shown.items, expr) {
+        return Err(Stop::Broken(at));
+    }
+    Ok(n)
 }
 
 /// A key that stands for an item of that kind is one node.
@@ -131,45 +141,60 @@ fn output_key(at: u32, output: Option<Kind<'_>>) -> Result<u32, Stop>
     }
 }
 
-/// A key of ORDER BY.
-fn key_typed(
+/// A key that is no output name.
+#[tactic(auto, using(crate::proofs::Tellings::stops_first))]
+fn other_key(
     catalog: &Catalog,
     alloc: Global,
-    query: &Query,
-    place: Place<'_>,
+    shown: Shown<'_>,
     outputs: &[Kind<'_>],
     key: &Expr,
     at: u32,
 ) -> Result<u32, Stop>
-    ensures { Goes result (orders.key_typed (catalogue catalog.now) (place_in (catalogue catalog.now) place.entry) (out-Query query.now).distinct (out-Query query.now).items (kinds_in outputs.now) key.now (sorts.meant (out-Query query.now).items key.now) at) }
+    ensures { Goes result (orders.other_key (catalogue catalog.now) (place_in (catalogue catalog.now) shown.entry.place) shown.entry.distinct shown.entry.items.now (kinds_in outputs.now) key.now (sorts.position key.now) at) }
 {
-    match meant(query.items.as_slice(), key) {
+    match position(key) {
+        Some(place) => output_key(at, output_at(place, outputs)),
+        None => expression_key(catalog, alloc, shown, key, at),
+    }
+}
+
+/// A key of ORDER BY.
+#[tactic(auto, using(crate::proofs::Tellings::stops_first))]
+fn key_typed(
+    catalog: &Catalog,
+    alloc: Global,
+    shown: Shown<'_>,
+    outputs: &[Kind<'_>],
+    key: &Expr,
+    at: u32,
+) -> Result<u32, Stop>
+    ensures { Goes result (orders.key_typed (catalogue catalog.now) (place_in (catalogue catalog.now) shown.entry.place) shown.entry.distinct shown.entry.items.now (kinds_in outputs.now) key.now (sorts.meant shown.entry.items.now key.now) at) }
+{
+    match meant(shown.items, key) {
         Some(expr) => {
-            let (kind, _) = kind_of(catalog, alloc, expr, place, at)?;
+            let (kind, _) = kind_of(catalog, alloc, expr, shown.place, at)?;
             item_key(at, kind)
         }
-        None => match position(key) {
-            Some(place) => output_key(at, output_at(place, outputs)),
-            None => expression_key(catalog, alloc, query, place, key, at),
-        },
+        None => other_key(catalog, alloc, shown, outputs, key, at),
     }
 }
 
 /// Each key in its turn.
+#[tactic(auto, using(crate::proofs::Tellings::stops_first))]
 fn keys_typed(
     catalog: &Catalog,
     alloc: Global,
-    query: &Query,
-    place: Place<'_>,
+    shown: Shown<'_>,
     outputs: &[Kind<'_>],
     keys: &[SortKey],
     number: u32,
 ) -> Result<u32, Stop>
-    ensures { Goes result (orders.keys_typed (catalogue catalog.now) (place_in (catalogue catalog.now) place.entry) (out-Query query.now).distinct (out-Query query.now).items (kinds_in outputs.now) keys.now number) }
+    ensures { Goes result (orders.keys_typed (catalogue catalog.now) (place_in (catalogue catalog.now) shown.entry.place) shown.entry.distinct shown.entry.items.now (kinds_in outputs.now) keys.now number) }
 {
     let mut n = number;
     for key in keys {
-        n = key_typed(catalog, alloc, query, place, outputs, &key.by, n)?;
+        n = key_typed(catalog, alloc, shown, outputs, &key.by, n)?;
     }
     Ok(n)
 }
@@ -187,6 +212,7 @@ fn keys_have_total(keys: &[SortKey]) -> bool
 }
 
 /// A query, then the keys of its ORDER BY. Its outputs are taken by columns of the kinds that are wanted, where there are such.
+#[tactic(auto, using(crate::proofs::Tellings::stops_first, crate::proofs::Tellings::tells_stops, crate::proofs::Tellings::tells_goes))]
 pub fn select_typed(
     catalog: &Catalog,
     alloc: Global,
@@ -213,6 +239,10 @@ pub fn select_typed(
     let (outputs, n) = kinds_of(catalog, alloc, &select.query, role, outermost, 0)?;
     let sight = nothing.inside(alloc, select.query.from.as_slice())?;
     let groups = groups_of(alloc, &select.query, role, &sight, &[])?;
-    let place = shown_place(outermost, &sight, groups.as_slice());
-    keys_typed(catalog, alloc, &select.query, place, outputs.as_slice(), select.order.as_slice(), n)
+    let shown = Shown {
+        place: shown_place(outermost, &sight, groups.as_slice()),
+        distinct: select.query.distinct,
+        items: select.query.items.as_slice(),
+    };
+    keys_typed(catalog, alloc, shown, outputs.as_slice(), select.order.as_slice(), n)
 }

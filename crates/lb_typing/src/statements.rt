@@ -12,8 +12,8 @@ ghost use Rattle.lb_names.specs.Scopes.{Catalogue};
 ghost use Rattle.lb_names.specs.declared.refused.Refused.{Refused};
 ghost use Rattle.lb_stmt.specs.declared.write.Stmt.TheVariants as stmts;
 ghost use Rattle.std.specs.Option.{option_copied};
-ghost use Rattle.lb_types.specs.Given.{Goes, kind_in, kinds_in, place_in};
-ghost use Rattle.lb_typing.specs.Given.{Tells};
+ghost use Rattle.lb_types.specs.Given.{Gives, Goes, kind_in, kinds_in, place_in};
+ghost use Rattle.lb_typing.specs.Given.{Tells, assignment_at, value_at};
 
 use crate::orders::select_typed;
 use lb_base::{Listing, Name, NoMemory};
@@ -28,6 +28,7 @@ use std::alloc::{AllocError, Global};
 /// The first refusal for types of a query or a write: `Types` with the number of the node that breaks a rule of Assignments and
 /// comparisons, of the group-by-clause, of the order-by-clause or of an expression's own topic, whose parts break none. Nodes are
 /// numbered from 0 in text order, a node before its parts. None where there is no such node, and for a change of the catalogue.
+#[tactic(auto, using(crate::proofs::Tellings::stops_first, crate::proofs::Tellings::tells_stops, crate::proofs::Tellings::tells_goes, crate::proofs::Tellings::tested_then, crate::proofs::Tellings::tested_stops))]
 pub fn types_refused(
     alloc: Global,
     catalog: &Catalog,
@@ -45,6 +46,7 @@ pub fn types_refused(
 }
 
 /// The first refusal for types of the condition of a row permission on that table (CREATE PERMISSION statement).
+#[tactic(auto, using(crate::proofs::Tellings::stops_first, crate::proofs::Tellings::tells_stops, crate::proofs::Tellings::tells_goes, crate::proofs::Tellings::tested_then, crate::proofs::Tellings::tested_stops))]
 pub fn permission_types_refused(
     alloc: Global,
     catalog: &Catalog,
@@ -58,6 +60,7 @@ pub fn permission_types_refused(
 
 /// The first refusal for types of the CASE of a mask of that column (CREATE MASK statement): it has the column's kind, which is no
 /// label, or is broken itself.
+#[tactic(auto, using(crate::proofs::Tellings::stops_first, crate::proofs::Tellings::tells_stops, crate::proofs::Tellings::tells_goes, crate::proofs::Tellings::tested_then, crate::proofs::Tellings::tested_stops))]
 pub fn mask_types_refused(
     alloc: Global,
     catalog: &Catalog,
@@ -97,6 +100,7 @@ fn place_over(sight: &Sight, subqueries: bool, stored: bool) -> Place<'_>
 
 // ---- permissions and masks
 
+#[tactic(auto, using(crate::proofs::Tellings::stops_first, crate::proofs::Tellings::tells_stops, crate::proofs::Tellings::tells_goes, crate::proofs::Tellings::tested_then, crate::proofs::Tellings::tested_stops))]
 fn permission_typed(
     catalog: &Catalog,
     alloc: Global,
@@ -110,6 +114,7 @@ fn permission_typed(
 }
 
 /// The CASE has the kind of the masked column, which is no label; else it is broken itself.
+#[tactic(auto, using(crate::proofs::Tellings::stops_first, crate::proofs::Tellings::tells_stops, crate::proofs::Tellings::tells_goes, crate::proofs::Tellings::tested_then, crate::proofs::Tellings::tested_stops))]
 fn mask_typed(
     catalog: &Catalog,
     alloc: Global,
@@ -144,6 +149,7 @@ fn mask_takes(column: Option<&ColumnRec>, kind: Kind<'_>) -> bool
 // ---- INSERT
 
 /// VALUES or the source query, for the columns that are given.
+#[tactic(auto, using(crate::proofs::Tellings::stops_first, crate::proofs::Tellings::tells_stops, crate::proofs::Tellings::tells_goes, crate::proofs::Tellings::tested_then, crate::proofs::Tellings::tested_stops))]
 fn insert_typed(catalog: &Catalog, alloc: Global, insert: &Insert) -> Result<u32, Stop>
     ensures { Tells result (statements.source_types_refused (catalogue catalog.now) (statements.kinds_given (catalogue catalog.now) insert.now.table insert.now.columns) insert.now.source) }
 {
@@ -221,6 +227,7 @@ fn with_kind_of<'a>(
 }
 
 /// The rows of VALUES, each in its turn.
+#[tactic(auto, using(crate::proofs::Tellings::stops_first, crate::proofs::Tellings::tells_stops, crate::proofs::Tellings::tells_goes, crate::proofs::Tellings::tested_then, crate::proofs::Tellings::tested_stops))]
 fn rows_typed(
     catalog: &Catalog,
     alloc: Global,
@@ -239,6 +246,7 @@ fn rows_typed(
 }
 
 /// A row of VALUES has as many values as there are columns; else it is broken at its first value, unless a part of that is.
+#[tactic(auto, using(crate::proofs::Tellings::stops_first, crate::proofs::Tellings::tells_stops, crate::proofs::Tellings::tells_goes, crate::proofs::Tellings::tested_then, crate::proofs::Tellings::tested_stops))]
 fn row_typed(
     catalog: &Catalog,
     alloc: Global,
@@ -262,6 +270,7 @@ fn row_typed(
 }
 
 /// Each value has its column's kind.
+#[tactic(auto, using(crate::proofs::Tellings::stops_first, crate::proofs::Tellings::tells_stops, crate::proofs::Tellings::tells_goes, crate::proofs::Tellings::tested_then, crate::proofs::Tellings::tested_stops))]
 fn values_typed(
     catalog: &Catalog,
     alloc: Global,
@@ -275,22 +284,26 @@ fn values_typed(
 {
     let mut n = number;
     for (i, value) in values.iter().enumerate() {
-        n = value_typed(catalog, alloc, columns[i], value, place, n)?;
+        let (_, after) = value_typed(catalog, alloc, columns[i], value, place, n)?;
+        n = after;
     }
     Ok(n)
 }
 
-fn value_typed(
-    catalog: &Catalog,
+#[tactic(auto, using(crate::proofs::Tellings::stops_first, crate::proofs::Tellings::tells_stops, crate::proofs::Tellings::tells_goes, crate::proofs::Tellings::tested_then, crate::proofs::Tellings::tested_stops))]
+fn value_typed<'a>(
+    catalog: &'a Catalog,
     alloc: Global,
     column: Kind<'_>,
-    value: &Expr,
+    value: &'a Expr,
     place: Place<'_>,
     at: u32,
-) -> Result<u32, Stop> {
-    let (kind, n) = kind_of(catalog, alloc, value, place.entry, at)?;
-    if takes(column.entry, kind) {
-        Ok(n)
+) -> Result<(Kind<'a>, u32), Stop>
+    ensures { Gives kind_in result (value_at (place_in (catalogue catalog.now) place.entry) (trees.means (catalogue catalog.now) value.now) (kind_in column.entry) at) }
+{
+    let (kind, n) = kind_of(catalog, alloc, value, place, at)?;
+    if takes(column, kind) {
+        Ok((kind, n))
     } else {
         Err(Stop::Broken(at))
     }
@@ -299,8 +312,8 @@ fn value_typed(
 // ---- UPDATE and DELETE
 
 /// SET, and then WHERE.
+#[tactic(auto, using(crate::proofs::Tellings::stops_first, crate::proofs::Tellings::tells_stops, crate::proofs::Tellings::tells_goes, crate::proofs::Tellings::tested_then, crate::proofs::Tellings::tested_stops))]
 fn update_typed(catalog: &Catalog, alloc: Global, update: &Update) -> Result<u32, Stop>
-    ensures { Tells result (statements.types_refused (catalogue catalog.now) (stmts.Update update.now)) } -> Result<u32, Stop>
     ensures { Tells result (statements.types_refused (catalogue catalog.now) (stmts.Update update.now)) }
 {
     let sight = Sight::over(alloc, &update.target)?;
@@ -311,6 +324,7 @@ fn update_typed(catalog: &Catalog, alloc: Global, update: &Update) -> Result<u32
 }
 
 /// Each `column = value` in its turn.
+#[tactic(auto, using(crate::proofs::Tellings::stops_first, crate::proofs::Tellings::tells_stops, crate::proofs::Tellings::tells_goes, crate::proofs::Tellings::tested_then, crate::proofs::Tellings::tested_stops))]
 fn assignments_typed(
     catalog: &Catalog,
     alloc: Global,
@@ -322,22 +336,26 @@ fn assignments_typed(
 {
     let mut n = 0;
     for assignment in assignments {
-        n = assignment_typed(catalog, alloc, columns, place, assignment, n)?;
+        let (_, after) = assignment_typed(catalog, alloc, columns, place, assignment, n)?;
+        n = after;
     }
     Ok(n)
 }
 
-fn assignment_typed(
-    catalog: &Catalog,
+#[tactic(auto, using(crate::proofs::Tellings::stops_first, crate::proofs::Tellings::tells_stops, crate::proofs::Tellings::tells_goes, crate::proofs::Tellings::tested_then, crate::proofs::Tellings::tested_stops))]
+fn assignment_typed<'a>(
+    catalog: &'a Catalog,
     alloc: Global,
     columns: &[ColumnRec],
     place: Place<'_>,
-    assignment: &Assignment,
+    assignment: &'a Assignment,
     at: u32,
-) -> Result<u32, Stop> {
-    let (kind, n) = kind_of(catalog, alloc, &assignment.value, place.entry, at)?;
+) -> Result<(Kind<'a>, u32), Stop>
+    ensures { Gives kind_in result (assignment_at (place_in (catalogue catalog.now) place.entry) (trees.means (catalogue catalog.now) assignment.now.value) (statements.kind_wanted (map field_of columns.now) assignment.now.column) at) }
+{
+    let (kind, n) = kind_of(catalog, alloc, &assignment.value, place, at)?;
     if is_taken_by(column_named(&assignment.column, columns), kind) {
-        Ok(n)
+        Ok((kind, n))
     } else {
         Err(Stop::Broken(at))
     }
@@ -345,7 +363,6 @@ fn assignment_typed(
 
 /// Whether the column takes a value of that kind.
 fn is_taken_by(column: Option<&ColumnRec>, kind: Kind<'_>) -> bool
-    ensures { result ≡ statements.is_taken_by (statements.kind_in (option_map field_of (option_copied column))) (kind_in kind) } -> bool
     ensures { result ≡ statements.is_taken_by (statements.kind_in (option_map field_of (option_copied column.entry))) (kind_in kind.entry) }
 {
     match column {
@@ -355,6 +372,7 @@ fn is_taken_by(column: Option<&ColumnRec>, kind: Kind<'_>) -> bool
 }
 
 /// WHERE of a DELETE.
+#[tactic(auto, using(crate::proofs::Tellings::stops_first, crate::proofs::Tellings::tells_stops, crate::proofs::Tellings::tells_goes, crate::proofs::Tellings::tested_then, crate::proofs::Tellings::tested_stops))]
 fn delete_typed(catalog: &Catalog, alloc: Global, delete: &Delete) -> Result<u32, Stop>
     ensures { Goes result (statements.where_typed (catalogue catalog.now) (statements.over_place delete.now.target) delete.now.filter 0) }
 {
@@ -363,6 +381,7 @@ fn delete_typed(catalog: &Catalog, alloc: Global, delete: &Delete) -> Result<u32
 }
 
 /// WHERE, where it is written.
+#[tactic(auto, using(crate::proofs::Tellings::stops_first, crate::proofs::Tellings::tells_stops, crate::proofs::Tellings::tells_goes, crate::proofs::Tellings::tested_then, crate::proofs::Tellings::tested_stops))]
 fn where_typed(
     catalog: &Catalog,
     alloc: Global,
