@@ -1,5 +1,5 @@
 -- The rules of names and types over the tables and policies of a catalogue.
-use Rattle.std.specs.Prelude.{ℕ, List, map, find, Option, None, Some, option_map, is_some, Result, Ok, Err}
+use Rattle.std.specs.Prelude.{ℕ, min, List, map, find, Option, None, Some, option_map, is_some, Result, Ok, Err}
 use Rattle.std.specs.Option.{option_and_then, option_or}
 use Rattle.lb_label.specs.LabelText.{read_label}
 use Rattle.lb_stmt.specs.declared.write.Stmt.{Stmt}
@@ -23,12 +23,12 @@ field_of c = record { name = c.name; kind = kind_of c.ty }
 abbrev pub fields_of : Table → List Field
 fields_of t = map field_of t.columns
 
--- the byte at which a text stops being a label text of the policy
+-- the byte at which a text stops being a label text of the policy; one beyond 4,294,967,295 is told as that number
 abbrev pub fault_in : Policy → List ℕ → Option ℕ
 fault_in p t = fault_of (read_label p.shape t) where
   fault_of : Result (List (List ℕ)) ℕ → Option ℕ
   fault_of (Ok read) = None
-  fault_of (Err at) = Some at
+  fault_of (Err at) = Some (min at 4294967295)
 
 -- the tables and policies as names and types see them
 abbrev pub named_by : List Table → List Policy → Catalogue

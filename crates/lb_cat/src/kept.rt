@@ -200,6 +200,14 @@ impl Catalog {
     {
         self.policies.named(name)
     }
+
+    /// The policy whose name this text is, as calls of label functions give it. None exactly where there is none.
+    pub fn policy_called(&self, name: &str) -> Option<&Arc<PolicyRec>>
+        ensures kept { option_map (λ r. arc_value r.now) result ≡ kept.kept_policy self.now name.now }
+        ensures bare { option_map (λ r. bare_policy (arc_value r.now)) result ≡ cat.policy_named (bare self.now) name.now }
+    {
+        self.policies.spelled(name)
+    }
 }
 
 /// The records of components.

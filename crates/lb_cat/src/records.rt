@@ -76,7 +76,14 @@ impl<R: Named> Records<R> {
     pub fn named(&self, name: &Name) -> Option<&Arc<R>>
         ensures { option_map (λ r. arc_value r.now) result ≡ find (λ x. bytes_eq (R.name x) name.now) self.now }
     {
-        self.records.get(name.as_str())
+        self.spelled(name.as_str())
+    }
+
+    /// The record whose name this text is, and `None` exactly where there is none.
+    pub fn spelled(&self, name: &str) -> Option<&Arc<R>>
+        ensures { option_map (λ r. arc_value r.now) result ≡ find (λ x. bytes_eq (R.name x) name.now) self.now }
+    {
+        self.records.get(name)
     }
 
     /// The same records once more, which are shared.

@@ -1,0 +1,4 @@
+mod Nodes
+mod Rules
+mod Stopping
+mod Whole

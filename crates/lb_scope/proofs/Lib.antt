@@ -1,0 +1,3 @@
+pub mod FromTables
+mod Heads
+mod Levels

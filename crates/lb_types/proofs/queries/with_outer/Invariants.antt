@@ -1,0 +1,15 @@
+use Rattle.std.proofs.Common.{◌≡◌, ◌++◌, ◌==◌, [], drop, take, map, length}
+use Rattle.std.specs.List.{filter, flat_map, list_any, list_all}
+use Rattle.std.specs.Option.{option_copied}
+use Rattle.lb_alter.specs.Naming.{field_of}
+use Rattle.lb_names.specs.Kinds as kind_rules
+use Rattle.lb_names.specs.Places as places
+use Rattle.lb_names.specs.Scopes as scopes
+use Rattle.lb_names.specs.SelectLists as lists
+use Rattle.lb_names.specs.Typing as trees
+use Rattle.lb_scope.specs.Found.{catalogue}
+use Rattle.lb_types.specs.Given.{group_in, is_starred, kind_in, kinds_in, left, place_in}
+use Rattle.lb_types.proofs.queries.with_outer.Given as goal
+
+abbrev pub invariant-loop-group : goal.invariant-loop-group
+invariant-loop-group l = l.all ≡ l.fn.groups ++ take l.group-index l.outer

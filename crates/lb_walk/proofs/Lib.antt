@@ -1,0 +1,5 @@
+pub mod Arms
+pub mod Joins
+pub mod Opens
+pub mod OwnParts
+pub mod OwnQueries
