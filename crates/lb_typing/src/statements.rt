@@ -181,10 +181,7 @@ fn kinds_given<'a>(
 }
 
 /// The kinds of all columns, each looked up by its name.
-fn kinds_of_all<'a>(
-    alloc: Global,
-    columns: &'a [ColumnRec],
-) -> Result<Listing<Kind<'a>>, NoMemory>
+fn kinds_of_all<'a>(alloc: Global, columns: &'a [ColumnRec]) -> Result<Listing<Kind<'a>>, NoMemory>
     ensures { IfOk result (λ k. kinds_in k ≡ statements.kinds_wanted (map field_of columns.now) (map (λ f. f.name) (map field_of columns.now))) }
 {
     let mut kinds = Listing::empty(alloc);
@@ -319,8 +316,20 @@ fn update_typed(catalog: &Catalog, alloc: Global, update: &Update) -> Result<u32
     let sight = Sight::over(alloc, &update.target)?;
     let columns = columns_of(catalog, &update.target);
     let place = place_over(&sight, false, false);
-    let n = assignments_typed(catalog, alloc, columns, place, update.assignments.as_slice())?;
-    where_typed(catalog, alloc, &update.filter, place_over(&sight, true, false), n)
+    let n = assignments_typed(
+        catalog,
+        alloc,
+        columns,
+        place,
+        update.assignments.as_slice(),
+    )?;
+    where_typed(
+        catalog,
+        alloc,
+        &update.filter,
+        place_over(&sight, true, false),
+        n,
+    )
 }
 
 /// Each `column = value` in its turn.
@@ -377,7 +386,13 @@ fn delete_typed(catalog: &Catalog, alloc: Global, delete: &Delete) -> Result<u32
     ensures { Goes result (statements.where_typed (catalogue catalog.now) (statements.over_place delete.now.target) delete.now.filter 0) }
 {
     let sight = Sight::over(alloc, &delete.target)?;
-    where_typed(catalog, alloc, &delete.filter, place_over(&sight, true, false), 0)
+    where_typed(
+        catalog,
+        alloc,
+        &delete.filter,
+        place_over(&sight, true, false),
+        0,
+    )
 }
 
 /// WHERE, where it is written.
