@@ -138,7 +138,11 @@ fn unqualified<'s, 'c>(catalog: &'c Catalog, name: &'s Name, seen: &'s [Seen]) -
 }
 
 /// What the column's name means where these items are in sight.
-pub fn resolve<'s, 'c>(catalog: &'c Catalog, seen: &'s [Seen], column: &'s Column) -> Meaning<'s, 'c>
+pub fn resolve<'s, 'c>(
+    catalog: &'c Catalog,
+    seen: &'s [Seen],
+    column: &'s Column,
+) -> Meaning<'s, 'c>
     ensures { meaning_in result ≡ scopes.resolve (catalogue catalog.now) seen.now column.now }
 {
     match &column.correlation {
