@@ -1,5 +1,5 @@
 // The first refusal for types of whole statements, and of the conditions of permissions and masks.
-ghost use Rattle.std.specs.Prelude.{◌≡◌, ◌++◌, [], ◌∷◌, IfOk, List, length, map, None, option_map, if◌then◌else◌, ◌==◌};
+ghost use Rattle.std.specs.Prelude.{◌≡◌, ◌++◌, [], ◌∷◌, IfOk, List, length, map, None, Option, option_map, if◌then◌else◌, ◌==◌};
 ghost use Rattle.std.specs.List.{flat_map, list_any};
 ghost use Rattle.lb_alter.specs.Naming.{field_of, named_in, refusal_for};
 ghost use Rattle.lb_cat.specs.Stamps.{bare};
@@ -252,7 +252,8 @@ fn row_typed(
     place: Place<'_>,
     number: u32,
 ) -> Result<u32, Stop>
-    ensures { place_in (catalogue catalog.now) place.entry ≡ statements.values_place → Goes result (statements.row_typed (catalogue catalog.now) (kinds_in columns.now) row.now number) }
+    requires { place_in (catalogue catalog.now) place ≡ statements.values_place }
+    ensures { Goes result (statements.row_typed (catalogue catalog.now) (kinds_in columns.now) row.now number) }
 {
     if columns.len() == row.len() {
         return values_typed(catalog, alloc, columns, row, place, number);
@@ -276,8 +277,9 @@ fn values_typed(
     place: Place<'_>,
     number: u32,
 ) -> Result<u32, Stop>
-    requires { length columns.now ≡ length values.now }
-    ensures { place_in (catalogue catalog.now) place.entry ≡ statements.values_place → Goes result (statements.values_typed (catalogue catalog.now) (kinds_in columns.now) values.now number) }
+    requires paired { length columns.now ≡ length values.now }
+    requires at_values { place_in (catalogue catalog.now) place ≡ statements.values_place }
+    ensures { Goes result (statements.values_typed (catalogue catalog.now) (kinds_in columns.now) values.now number) }
 {
     let mut n = number;
     for (i, value) in values.iter().enumerate() {
