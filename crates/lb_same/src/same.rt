@@ -36,11 +36,21 @@ fn is_same(catalog: &Catalog, seen: &[Seen], one: &Expr, other: &Expr) -> bool
             _ => false,
         },
         Expr::Concat(parts) => match other {
-            Expr::Concat(others) => are_same_exprs(catalog, seen, parts.as_slice(), others.as_slice()),
+            Expr::Concat(others) => are_same_exprs(
+                catalog,
+                seen,
+                parts.as_slice(),
+                others.as_slice(),
+            ),
             _ => false,
         },
         Expr::Product(parts) => match other {
-            Expr::Product(others) => are_same_exprs(catalog, seen, parts.as_slice(), others.as_slice()),
+            Expr::Product(others) => are_same_exprs(
+                catalog,
+                seen,
+                parts.as_slice(),
+                others.as_slice(),
+            ),
             _ => false,
         },
         Expr::Case(arms, otherwise) => match other {
@@ -53,7 +63,8 @@ fn is_same(catalog: &Catalog, seen: &[Seen], one: &Expr, other: &Expr) -> bool
         Expr::Match(operand, choices, otherwise) => match other {
             Expr::Match(another, others, its_otherwise) => {
                 if is_same(catalog, seen, operand.get(), another.get()) {
-                    are_same_choices(catalog, seen, choices.as_slice(), others.as_slice()) && are_same_options(catalog, seen, otherwise, its_otherwise)
+                    are_same_choices(catalog, seen, choices.as_slice(), others.as_slice())
+                        && are_same_options(catalog, seen, otherwise, its_otherwise)
                 } else {
                     false
                 }
@@ -61,13 +72,15 @@ fn is_same(catalog: &Catalog, seen: &[Seen], one: &Expr, other: &Expr) -> bool
             _ => false,
         },
         Expr::Aggregate(aggregate, of) => match other {
-            Expr::Aggregate(another, other_of) => is_same_aggregate(*aggregate, *another) && is_same(catalog, seen, of.get(), other_of.get()),
+            Expr::Aggregate(another, other_of) => is_same_aggregate(*aggregate, *another)
+                && is_same(catalog, seen, of.get(), other_of.get()),
             _ => false,
         },
         Expr::Substr(text, from, length) => match other {
             Expr::Substr(another, other_from, other_length) => {
                 if is_same(catalog, seen, text.get(), another.get()) {
-                    is_same(catalog, seen, from.get(), other_from.get()) && are_same_options(catalog, seen, length, other_length)
+                    is_same(catalog, seen, from.get(), other_from.get())
+                        && are_same_options(catalog, seen, length, other_length)
                 } else {
                     false
                 }
@@ -75,11 +88,17 @@ fn is_same(catalog: &Catalog, seen: &[Seen], one: &Expr, other: &Expr) -> bool
             _ => false,
         },
         Expr::Apply(function, to) => match other {
-            Expr::Apply(another, other_to) => is_same_function(*function, *another) && is_same(catalog, seen, to.get(), other_to.get()),
+            Expr::Apply(another, other_to) => is_same_function(*function, *another)
+                && is_same(catalog, seen, to.get(), other_to.get()),
             _ => false,
         },
         Expr::Coalesce(parts) => match other {
-            Expr::Coalesce(others) => are_same_exprs(catalog, seen, parts.as_slice(), others.as_slice()),
+            Expr::Coalesce(others) => are_same_exprs(
+                catalog,
+                seen,
+                parts.as_slice(),
+                others.as_slice(),
+            ),
             _ => false,
         },
     }
@@ -107,7 +126,8 @@ fn is_same_cond(catalog: &Catalog, seen: &[Seen], one: &Cond, other: &Cond) -> b
         Cond::Compare(by, left, right) => match other {
             Cond::Compare(other_by, other_left, other_right) => {
                 if is_same_comparison(*by, *other_by) {
-                    is_same(catalog, seen, left.get(), other_left.get()) && is_same(catalog, seen, right.get(), other_right.get())
+                    is_same(catalog, seen, left.get(), other_left.get())
+                        && is_same(catalog, seen, right.get(), other_right.get())
                 } else {
                     false
                 }
@@ -128,7 +148,8 @@ fn is_same_cond(catalog: &Catalog, seen: &[Seen], one: &Cond, other: &Cond) -> b
         Cond::Between(part, low, high) => match other {
             Cond::Between(another, other_low, other_high) => {
                 if is_same(catalog, seen, part.get(), another.get()) {
-                    is_same(catalog, seen, low.get(), other_low.get()) && is_same(catalog, seen, high.get(), other_high.get())
+                    is_same(catalog, seen, low.get(), other_low.get())
+                        && is_same(catalog, seen, high.get(), other_high.get())
                 } else {
                     false
                 }
@@ -149,12 +170,23 @@ fn is_same_atom(catalog: &Catalog, seen: &[Seen], one: &Atom, other: &Atom) -> b
         (Atom::Date(day), Atom::Date(another)) => *day == *another,
         (Atom::CurrentDate, Atom::CurrentDate) => true,
         (Atom::SessionUser, Atom::SessionUser) => true,
-        (Atom::Column(column), Atom::Column(another)) => is_same_column(catalog, seen, column, another),
+        (Atom::Column(column), Atom::Column(another)) => is_same_column(
+            catalog, seen, column, another,
+        ),
         (Atom::CountRows, Atom::CountRows) => true,
-        (Atom::VerifyRole(names), Atom::VerifyRole(others)) => are_same_names(names.as_slice(), others.as_slice()),
-        (Atom::VerifyGroup(names), Atom::VerifyGroup(others)) => are_same_names(names.as_slice(), others.as_slice()),
-        (Atom::SecLabel(policy, text), Atom::SecLabel(other_policy, another)) => policy.is(other_policy) && text.is(another),
-        (Atom::SecLabelByName(policy, label), Atom::SecLabelByName(other_policy, another)) => policy.is(other_policy) && label.is(another),
+        (Atom::VerifyRole(names), Atom::VerifyRole(others)) => are_same_names(
+            names.as_slice(),
+            others.as_slice(),
+        ),
+        (Atom::VerifyGroup(names), Atom::VerifyGroup(others)) => are_same_names(
+            names.as_slice(),
+            others.as_slice(),
+        ),
+        (Atom::SecLabel(policy, text), Atom::SecLabel(other_policy, another)) => policy.is(
+            other_policy,
+        ) && text.is(another),
+        (Atom::SecLabelByName(policy, label), Atom::SecLabelByName(other_policy, another)) =>
+            policy.is(other_policy) && label.is(another),
         (Atom::SecLabelToChar(policy, column), Atom::SecLabelToChar(other_policy, another)) => {
             policy.is(other_policy) && is_same_column(catalog, seen, column, another)
         }
@@ -178,7 +210,12 @@ fn are_same_names(names: &[Str], others: &[Str]) -> bool
 }
 
 #[cycle(same)]
-fn are_same_options(catalog: &Catalog, seen: &[Seen], one: &Option<Boxed<Expr>>, other: &Option<Boxed<Expr>>) -> bool
+fn are_same_options(
+    catalog: &Catalog,
+    seen: &[Seen],
+    one: &Option<Boxed<Expr>>,
+    other: &Option<Boxed<Expr>>,
+) -> bool
     ensures { result ≡ same.both_like (option_map (expr_of liking (like_steps (catalogue catalog.now) seen.now)) one.now) other.now }
 {
     match one {
@@ -195,7 +232,8 @@ fn are_same_options(catalog: &Catalog, seen: &[Seen], one: &Option<Boxed<Expr>>,
 fn is_same_arm(catalog: &Catalog, seen: &[Seen], one: &Arm, other: &Arm) -> bool
     ensures { result ≡ (arm_of liking (like_steps (catalogue catalog.now) seen.now) one.now).to other.now }
 {
-    is_same_cond(catalog, seen, &one.when, &other.when) && is_same(catalog, seen, &one.result, &other.result)
+    is_same_cond(catalog, seen, &one.when, &other.when)
+        && is_same(catalog, seen, &one.result, &other.result)
 }
 
 #[cycle(same)]
@@ -203,7 +241,8 @@ fn is_same_arm(catalog: &Catalog, seen: &[Seen], one: &Arm, other: &Arm) -> bool
 fn is_same_choice(catalog: &Catalog, seen: &[Seen], one: &Choice, other: &Choice) -> bool
     ensures { result ≡ (choice_of liking (like_steps (catalogue catalog.now) seen.now) one.now).to other.now }
 {
-    is_same(catalog, seen, &one.when, &other.when) && is_same(catalog, seen, &one.result, &other.result)
+    is_same(catalog, seen, &one.when, &other.when)
+        && is_same(catalog, seen, &one.result, &other.result)
 }
 
 #[cycle(same)]

@@ -35,7 +35,14 @@ pub fn typed(
         Cond::And(parts) => all_typed(catalog, alloc, parts.as_slice(), place, next(at)),
         Cond::Not(part) => typed(catalog, alloc, part.get(), place, next(at)),
         Cond::Exists(query) => {
-            let (_, n) = kinds_of(catalog, alloc, query.get(), subquery(false), place, next(at))?;
+            let (_, n) = kinds_of(
+                catalog,
+                alloc,
+                query.get(),
+                subquery(false),
+                place,
+                next(at),
+            )?;
             Ok(n)
         }
         Cond::Compare(by, left, right) => {

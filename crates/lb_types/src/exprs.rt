@@ -41,11 +41,25 @@ pub fn kind_of<'a>(
             one_kind(at, found)
         }
         Expr::Concat(parts) => {
-            let found = kind_of_all(catalog, alloc, Kind::Text, parts.as_slice(), place, next(at))?;
+            let found = kind_of_all(
+                catalog,
+                alloc,
+                Kind::Text,
+                parts.as_slice(),
+                place,
+                next(at),
+            )?;
             one_kind(at, found)
         }
         Expr::Product(parts) => {
-            let found = kind_of_all(catalog, alloc, Kind::Integer, parts.as_slice(), place, next(at))?;
+            let found = kind_of_all(
+                catalog,
+                alloc,
+                Kind::Integer,
+                parts.as_slice(),
+                place,
+                next(at),
+            )?;
             one_kind(at, found)
         }
         Expr::Case(arms, otherwise) => {
@@ -55,7 +69,14 @@ pub fn kind_of<'a>(
         }
         Expr::Match(operand, choices, otherwise) => {
             let (kind, n) = kind_of(catalog, alloc, operand.get(), place, next(at))?;
-            let ((operands, results), n) = kinds_of_choices(catalog, alloc, kind, choices.as_slice(), place, n)?;
+            let ((operands, results), n) = kinds_of_choices(
+                catalog,
+                alloc,
+                kind,
+                choices.as_slice(),
+                place,
+                n,
+            )?;
             let results = kind_of_any(catalog, alloc, (results, n), otherwise, place)?;
             plain_results(at, operands, results)
         }
@@ -65,7 +86,13 @@ pub fn kind_of<'a>(
         }
         Expr::Substr(text, from, length) => {
             let (kind, n) = kind_of(catalog, alloc, text.get(), place, next(at))?;
-            let numbers = kind_with(catalog, alloc, (Common::One(Kind::Integer), n), from.get(), place)?;
+            let numbers = kind_with(
+                catalog,
+                alloc,
+                (Common::One(Kind::Integer), n),
+                from.get(),
+                place,
+            )?;
             let numbers = kind_of_any(catalog, alloc, numbers, length, place)?;
             substr_kind(at, kind, numbers)
         }
@@ -74,7 +101,14 @@ pub fn kind_of<'a>(
             function_kind(*function, at, found)
         }
         Expr::Coalesce(parts) => {
-            let found = kind_of_all(catalog, alloc, Kind::Null, parts.as_slice(), place, next(at))?;
+            let found = kind_of_all(
+                catalog,
+                alloc,
+                Kind::Null,
+                parts.as_slice(),
+                place,
+                next(at),
+            )?;
             plain_kind(at, found)
         }
     }

@@ -112,13 +112,7 @@ pub fn shown_place<'a>(place: Place<'a>, sight: &'a Sight, groups: &'a [GroupBy<
 }
 
 /// Whether the grouping column, where these items are in sight, is that column of the item.
-fn is_column_at(
-    catalog: &Catalog,
-    seen: &[Seen],
-    column: &Column,
-    item: &Seen,
-    name: &Name,
-) -> bool
+fn is_column_at(catalog: &Catalog, seen: &[Seen], column: &Column, item: &Seen, name: &Name) -> bool
     ensures { result ≡ list_any (scopes.same_spot (scopes.spot_of item.now name.now)) (scopes.spots (scopes.resolve (catalogue catalog.now) seen.now column.now)) }
 {
     match resolve(catalog, seen, column) {

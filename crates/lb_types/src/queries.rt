@@ -41,7 +41,14 @@ pub fn kinds_of<'a>(
     let groups = groups_of(alloc, query, role, &sight, place.groups)?;
     let wanted = wanted_of(catalog, query, role, &sight);
     let shown = shown_place(place, &sight, groups.as_slice());
-    let (outputs, n) = outputs_of(catalog, alloc, query.items.as_slice(), wanted, shown, next(at))?;
+    let (outputs, n) = outputs_of(
+        catalog,
+        alloc,
+        query.items.as_slice(),
+        wanted,
+        shown,
+        next(at),
+    )?;
     let n = chains_typed(catalog, alloc, query.from.as_slice(), place, &sight, n)?;
     let filter = filter_place(place, &sight);
     let n = maybe_typed(catalog, alloc, &query.filter, filter, n)?;
@@ -61,7 +68,10 @@ fn query_fits<'a>(
     ensures { (C : scopes.Catalogue) → Gives kinds_in result (typed.only_if (trees.query_fits (role_in role.entry) (place_in C place.entry) (kinds_in outputs.entry.0)) at (kinds_in outputs.entry.0, outputs.entry.1)) }
 {
     let width = outputs.0.len();
-    if (role.subquery && !place.subqueries) || (role.one && width != 1) || !is_width(role.wanted, width) {
+    if (role.subquery && !place.subqueries)
+        || (role.one && width != 1)
+        || !is_width(role.wanted, width)
+    {
         Err(Stop::Broken(at))
     } else {
         Ok(outputs)
@@ -79,12 +89,7 @@ fn is_width(wanted: Option<&[Kind<'_>]>, outputs: usize) -> bool
 }
 
 /// What is wanted of the select list: outputs are paired with columns only where there are as many.
-fn wanted_of<'a>(
-    catalog: &Catalog,
-    query: &Query,
-    role: Role<'a>,
-    sight: &Sight,
-) -> Wanted<'a>
+fn wanted_of<'a>(catalog: &Catalog, query: &Query, role: Role<'a>, sight: &Sight) -> Wanted<'a>
     ensures { wanted_in result ≡ record { one = (role_in role.entry).one; grouped = trees.is_listed (out-Query query.now).group; distinct = (out-Query query.now).distinct; kinds = paired_kinds (catalogue catalog.now) (map (trees.shows (catalogue catalog.now)) (out-Query query.now).items) (role_in role.entry).wanted sight.now } }
 {
     Wanted {
@@ -119,7 +124,10 @@ fn paired<'a>(
 fn has_groups(query: &Query, role: Role<'_>) -> bool
     ensures { (C : scopes.Catalogue) → result ≡ trees.has_groups (query_in C query.now) (role_in role.entry) }
 {
-    !query.group.is_empty() || query.having.is_some() || role.total || items_have_total(query.items.as_slice())
+    !query.group.is_empty()
+        || query.having.is_some()
+        || role.total
+        || items_have_total(query.items.as_slice())
 }
 
 /// The groups under which its select list, HAVING and ORDER BY stand, its own first.
@@ -134,12 +142,18 @@ pub fn groups_of<'a>(
 {
     let mut groups = Listing::empty(alloc);
     if has_groups(query, role) {
-        groups.push(GroupBy { sight, columns: query.group.as_slice() })?;
+        groups.push(GroupBy {
+            sight,
+            columns: query.group.as_slice(),
+        })?;
     }
     with_outer(groups, outer)
 }
 
-fn with_outer<'a>(groups: Listing<GroupBy<'a>>, outer: &'a [GroupBy<'a>]) -> Result<Listing<GroupBy<'a>>, NoMemory>
+fn with_outer<'a>(
+    groups: Listing<GroupBy<'a>>,
+    outer: &'a [GroupBy<'a>],
+) -> Result<Listing<GroupBy<'a>>, NoMemory>
     ensures { IfOk result (λ g. g ≡ groups.entry ++ outer.now) }
 {
     let mut all = groups;
@@ -150,7 +164,12 @@ fn with_outer<'a>(groups: Listing<GroupBy<'a>>, outer: &'a [GroupBy<'a>]) -> Res
 }
 
 /// The columns of GROUP BY are no labels.
-fn group_typed(catalog: &Catalog, columns: &[Column], place: Place<'_>, number: u32) -> Result<u32, Stop>
+fn group_typed(
+    catalog: &Catalog,
+    columns: &[Column],
+    place: Place<'_>,
+    number: u32,
+) -> Result<u32, Stop>
     ensures { Goes result (trees.group_typed (catalogue catalog.now) (place_in (catalogue catalog.now) place.entry) columns.now number) }
 {
     let mut n = number;
@@ -160,7 +179,12 @@ fn group_typed(catalog: &Catalog, columns: &[Column], place: Place<'_>, number: 
     Ok(n)
 }
 
-fn group_column_typed(catalog: &Catalog, column: &Column, place: Place<'_>, at: u32) -> Result<u32, Stop>
+fn group_column_typed(
+    catalog: &Catalog,
+    column: &Column,
+    place: Place<'_>,
+    at: u32,
+) -> Result<u32, Stop>
     ensures { Goes result (group_column (catalogue catalog.now) (place_in (catalogue catalog.now) place.entry) column.now at) }
 {
     let (kind, n) = column_kind(catalog, column, place, at)?;
@@ -174,7 +198,14 @@ fn group_column_typed(catalog: &Catalog, column: &Column, place: Place<'_>, at: 
 /// The ON conditions of FROM.
 #[cycle(typing)]
 #[tactic(auto, using(crate::proofs::Steps::stops_then))]
-fn chains_typed(catalog: &Catalog, alloc: Global, chains: &[Chain], place: Place<'_>, query: &Sight, number: u32) -> Result<u32, Stop>
+fn chains_typed(
+    catalog: &Catalog,
+    alloc: Global,
+    chains: &[Chain],
+    place: Place<'_>,
+    query: &Sight,
+    number: u32,
+) -> Result<u32, Stop>
     ensures { (all : List (List ℕ)) → query.now.around ≡ all ++ place.entry.sight.now.around → Goes result (lists.chains_typed (place_in (catalogue catalog.now) place.entry) all (map (chain_of (catalogue catalog.now)) chains.now) number) }
 {
     let mut n = number;
@@ -187,7 +218,14 @@ fn chains_typed(catalog: &Catalog, alloc: Global, chains: &[Chain], place: Place
 /// The ON conditions of a chain.
 #[cycle(typing)]
 #[tactic(auto, using(crate::proofs::Steps::stops_then))]
-fn joins_typed(catalog: &Catalog, alloc: Global, chain: &Chain, place: Place<'_>, query: &Sight, number: u32) -> Result<u32, Stop>
+fn joins_typed(
+    catalog: &Catalog,
+    alloc: Global,
+    chain: &Chain,
+    place: Place<'_>,
+    query: &Sight,
+    number: u32,
+) -> Result<u32, Stop>
     ensures { (all : List (List ℕ)) → query.now.around ≡ all ++ place.entry.sight.now.around → Goes result (lists.joins_typed (place_in (catalogue catalog.now) place.entry) all (chain.now.first ∷ []) (map (trees.joins (catalogue catalog.now)) chain.now.joins) number) }
 {
     let mut tabs = Listing::empty(alloc);
@@ -203,7 +241,15 @@ fn joins_typed(catalog: &Catalog, alloc: Global, chain: &Chain, place: Place<'_>
 /// The ON condition of a join, in a chain whose tables up to its own are these. It has no arithmetic and no subquery (joined-table).
 #[cycle(typing)]
 #[tactic(auto, using(crate::proofs::Outputs::typed_inner, crate::proofs::Outputs::typed_left, crate::proofs::Outputs::typed_cross, crate::proofs::Steps::stops_then))]
-fn join_typed(catalog: &Catalog, alloc: Global, join: &Join, place: Place<'_>, query: &Sight, tabs: &[Tab], at: u32) -> Result<u32, Stop>
+fn join_typed(
+    catalog: &Catalog,
+    alloc: Global,
+    join: &Join,
+    place: Place<'_>,
+    query: &Sight,
+    tabs: &[Tab],
+    at: u32,
+) -> Result<u32, Stop>
     ensures { (all : List (List ℕ)) → query.now.around ≡ all ++ place.entry.sight.now.around → Goes result ((trees.joins (catalogue catalog.now) join.now).typed (places.on_place (place_in (catalogue catalog.now) place.entry) all tabs.now) at) }
 {
     match join {

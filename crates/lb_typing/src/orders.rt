@@ -16,7 +16,9 @@ use lb_cat::Catalog;
 use lb_same::is_same_expr;
 use lb_scope::{Meaning, Sight, correlation, meant, position, resolve};
 use lb_tree::{Atom, Column, Expr, Item, Select, SortKey};
-use lb_types::{Kind, Place, Role, Stop, groups_of, is_label, kind_of, kinds_of, next, shown_place};
+use lb_types::{
+    Kind, Place, Role, Stop, groups_of, is_label, kind_of, kinds_of, next, shown_place,
+};
 use lb_walk::expr_has_total;
 use std::alloc::Global;
 
@@ -49,10 +51,11 @@ fn is_own_column(place: Place<'_>, by: Option<&Name>, meaning: Meaning<'_, '_>) 
 {
     match meaning {
         Meaning::Found(item, _) => {
-            item.level == place.sight.level() && (match by {
-                None => true,
-                Some(by) => correlation(&item.tab).is(by),
-            })
+            item.level == place.sight.level()
+                && (match by {
+                    None => true,
+                    Some(by) => correlation(&item.tab).is(by),
+                })
         }
         Meaning::Unknown(_) => false,
     }
@@ -244,5 +247,12 @@ pub fn select_typed(
         distinct: select.query.distinct,
         items: select.query.items.as_slice(),
     };
-    keys_typed(catalog, alloc, shown, outputs.as_slice(), select.order.as_slice(), n)
+    keys_typed(
+        catalog,
+        alloc,
+        shown,
+        outputs.as_slice(),
+        select.order.as_slice(),
+        n,
+    )
 }

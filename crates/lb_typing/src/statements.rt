@@ -1,5 +1,5 @@
 // The first refusal for types of whole statements, and of the conditions of permissions and masks.
-ghost use Rattle.std.specs.Prelude.{◌≡◌, ◌++◌, [], ◌∷◌, IfOk, List, length, map, None, option_map, if◌then◌else◌, ◌==◌};
+ghost use Rattle.std.specs.Prelude.{◌≡◌, ◌++◌, [], ◌∷◌, IfOk, List, length, map, None, Option, option_map, if◌then◌else◌, ◌==◌};
 ghost use Rattle.std.specs.List.{flat_map, list_any};
 ghost use Rattle.lb_alter.specs.Naming.{field_of, named_in, refusal_for};
 ghost use Rattle.lb_cat.specs.Stamps.{bare};
@@ -181,10 +181,7 @@ fn kinds_given<'a>(
 }
 
 /// The kinds of all columns, each looked up by its name.
-fn kinds_of_all<'a>(
-    alloc: Global,
-    columns: &'a [ColumnRec],
-) -> Result<Listing<Kind<'a>>, NoMemory>
+fn kinds_of_all<'a>(alloc: Global, columns: &'a [ColumnRec]) -> Result<Listing<Kind<'a>>, NoMemory>
     ensures { IfOk result (λ k. kinds_in k ≡ statements.kinds_wanted (map field_of columns.now) (map (λ f. f.name) (map field_of columns.now))) }
 {
     let mut kinds = Listing::empty(alloc);
@@ -255,7 +252,8 @@ fn row_typed(
     place: Place<'_>,
     number: u32,
 ) -> Result<u32, Stop>
-    ensures { place_in (catalogue catalog.now) place.entry ≡ statements.values_place → Goes result (statements.row_typed (catalogue catalog.now) (kinds_in columns.now) row.now number) }
+    requires { place_in (catalogue catalog.now) place ≡ statements.values_place }
+    ensures { Goes result (statements.row_typed (catalogue catalog.now) (kinds_in columns.now) row.now number) }
 {
     if columns.len() == row.len() {
         return values_typed(catalog, alloc, columns, row, place, number);
@@ -279,8 +277,9 @@ fn values_typed(
     place: Place<'_>,
     number: u32,
 ) -> Result<u32, Stop>
-    requires { length columns.now ≡ length values.now }
-    ensures { place_in (catalogue catalog.now) place.entry ≡ statements.values_place → Goes result (statements.values_typed (catalogue catalog.now) (kinds_in columns.now) values.now number) }
+    requires paired { length columns.now ≡ length values.now }
+    requires at_values { place_in (catalogue catalog.now) place ≡ statements.values_place }
+    ensures { Goes result (statements.values_typed (catalogue catalog.now) (kinds_in columns.now) values.now number) }
 {
     let mut n = number;
     for (i, value) in values.iter().enumerate() {
@@ -319,8 +318,20 @@ fn update_typed(catalog: &Catalog, alloc: Global, update: &Update) -> Result<u32
     let sight = Sight::over(alloc, &update.target)?;
     let columns = columns_of(catalog, &update.target);
     let place = place_over(&sight, false, false);
-    let n = assignments_typed(catalog, alloc, columns, place, update.assignments.as_slice())?;
-    where_typed(catalog, alloc, &update.filter, place_over(&sight, true, false), n)
+    let n = assignments_typed(
+        catalog,
+        alloc,
+        columns,
+        place,
+        update.assignments.as_slice(),
+    )?;
+    where_typed(
+        catalog,
+        alloc,
+        &update.filter,
+        place_over(&sight, true, false),
+        n,
+    )
 }
 
 /// Each `column = value` in its turn.
@@ -377,7 +388,13 @@ fn delete_typed(catalog: &Catalog, alloc: Global, delete: &Delete) -> Result<u32
     ensures { Goes result (statements.where_typed (catalogue catalog.now) (statements.over_place delete.now.target) delete.now.filter 0) }
 {
     let sight = Sight::over(alloc, &delete.target)?;
-    where_typed(catalog, alloc, &delete.filter, place_over(&sight, true, false), 0)
+    where_typed(
+        catalog,
+        alloc,
+        &delete.filter,
+        place_over(&sight, true, false),
+        0,
+    )
 }
 
 /// WHERE, where it is written.

@@ -61,7 +61,7 @@ module _ (C : Catalogue) where
         ∙ ap (λ w. marks_over x v w (tables_of (map (folds.chain_of marked mark_steps) (out-Query x).from))) (sym h)
         ∙ parts (of_each (λ (m : Shows). m.marks) (map (shows C) (out-Query x).items) u) (chains_marks v (calls_of (tables_of (map (folds.chain_of marked mark_steps) (out-Query x).from))) [] (map chain_marked (map (chain_of C) (out-Query x).from))) (of_any (λ (m : Says). m.marks) (option_map (says C) (out-Query x).filter) u) (map (column u.seen) (out-Query x).group) (of_any (λ (m : Says). m.marks) (option_map (says C) (out-Query x).having) u)
         ∙ ap (λ f. all_own C level (of_each (λ (m : Shows). m.marks) (map (shows C) (out-Query x).items) u) && (f && (all_own C level (of_any (λ (m : Says). m.marks) (option_map (says C) (out-Query x).filter) u) && (all_own C level (map (column u.seen) (out-Query x).group) && all_own C level (of_any (λ (m : Says). m.marks) (option_map (says C) (out-Query x).having) u)))))
-            (chains_are v (calls_of (tables_of (map (folds.chain_of marked mark_steps) (out-Query x).from))) [] (map chain_marked (map (chain_of C) (out-Query x).from)))
+        (chains_are v (calls_of (tables_of (map (folds.chain_of marked mark_steps) (out-Query x).from))) [] (map chain_marked (map (chain_of C) (out-Query x).from)))
       where
         marks_over : Query → Sight → Sight → List Tab → Bool
         marks_over x v u tabs = all_own C level (of_each (λ (m : Shows). m.marks) (map (shows C) (out-Query x).items) u ++ (chains_marks v (calls_of tabs) [] (map chain_marked (map (chain_of C) (out-Query x).from)) ++ (of_any (λ (m : Says). m.marks) (option_map (says C) (out-Query x).filter) u ++ (map (column u.seen) (out-Query x).group ++ of_any (λ (m : Says). m.marks) (option_map (says C) (out-Query x).having) u))))

@@ -91,7 +91,9 @@ fn atom_own(catalog: &Catalog, level: usize, atom: &Atom, seen: &[Seen]) -> bool
     ensures { (v : sights.Sight) → v.seen ≡ seen.now → result ≡ all_own (catalogue catalog.now) level (marks.atom_marks atom.now v) }
 {
     match atom {
-        Atom::Column(column) | Atom::SecLabelToChar(_, column) => column_own(catalog, level, column, seen),
+        Atom::Column(column) | Atom::SecLabelToChar(_, column) => column_own(
+            catalog, level, column, seen,
+        ),
         Atom::Null
         | Atom::Int(_)
         | Atom::Text(_)

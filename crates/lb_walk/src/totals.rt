@@ -21,7 +21,8 @@ pub fn expr_has_total(expr: &Expr) -> bool
         Expr::Sum(parts) => parts_have_total(parts.as_slice()),
         Expr::Concat(parts) => exprs_have_total(parts.as_slice()),
         Expr::Product(parts) => exprs_have_total(parts.as_slice()),
-        Expr::Case(arms, otherwise) => arms_have_total(arms.as_slice()) || maybe_has_total(otherwise),
+        Expr::Case(arms, otherwise) => arms_have_total(arms.as_slice())
+            || maybe_has_total(otherwise),
         Expr::Match(operand, choices, otherwise) => {
             if expr_has_total(operand.get()) {
                 return true;

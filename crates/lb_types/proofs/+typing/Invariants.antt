@@ -32,4 +32,3 @@ invariant-queries::chains_typed-loop-chain l = (all : List Name) → l.query.aro
 
 abbrev pub invariant-queries::joins_typed-loop-join : goal.invariant-queries::joins_typed-loop-join
 invariant-queries::joins_typed-loop-join l = (all : List Name) → l.query.around ≡ all ++ l.place.sight.now.around → lists.joins_typed (place_in (catalogue l.catalog) l.place) all (l.chain.first ∷ []) (map (trees.joins (catalogue l.catalog)) l.chain.joins) l.number ≡ lists.joins_typed (place_in (catalogue l.catalog) l.place) all l.tabs (map (trees.joins (catalogue l.catalog)) (drop l.join-index l.chain.joins)) l.n
-
