@@ -1,2 +1,0 @@
-mod Nodes
-mod Rules

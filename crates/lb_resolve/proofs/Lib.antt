@@ -1,4 +1,0 @@
-mod Nodes
-mod Rules
-mod Stopping
-mod Whole
