@@ -13,11 +13,11 @@ use Rattle.lb_tree.specs.declared.query.Signed.{Signed}
 use Rattle.lb_tree.specs.declared.query.Expr.TheVariants as exprs
 use Rattle.lb_tree.specs.declared.query.Cond.TheVariants as conds
 use Rattle.lb_tree.specs.declared.query.Cond.TheOpen as layers
-use Rattle.lb_tree.specs.declared.query.Cond.TheViews.{out-Cond, out-Expr, outs-Atom, outs-Sum, outs-Concat, outs-Product, outs-Case, outs-Match, outs-Aggregate, outs-Substr, outs-Apply, outs-Coalesce, outs-Or, outs-And, outs-Not, outs-Compare, outs-IsNull, outs-InList, outs-Between}
+use Rattle.lb_tree.specs.declared.query.Cond.TheViews.{outs-Atom, outs-Sum, outs-Concat, outs-Product, outs-Case, outs-Match, outs-Aggregate, outs-Substr, outs-Apply, outs-Coalesce, outs-Or, outs-And, outs-Not, outs-Compare, outs-IsNull, outs-InList, outs-Between}
 use Rattle.lb_tree.specs.Folds.{cond_of, expr_of, arm_of, choice_of, signed_of}
 use Rattle.lb_names.specs.declared.place.Seen.{Seen}
 use Rattle.lb_names.specs.Scopes.{Catalogue}
-use Rattle.lb_names.specs.Same.{Like, liking, like_steps, expr_like, cond_like, all_like, both_like, same_atom, same_aggregate, same_function, same_comparison}
+use Rattle.lb_names.specs.Same.{liking, like_steps, expr_like, cond_like, all_like, both_like, same_atom, same_aggregate, same_function, same_comparison}
 use Rattle.lb_same.proofs.Sames as forms
 
 -- what is found after a first part that is the same, or isn't

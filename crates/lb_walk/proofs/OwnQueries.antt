@@ -1,5 +1,5 @@
 -- Own columns of queries.
-use Rattle.std.proofs.Common.{ℕ, ◌≡◌, refl, ap, sym, ◌∙◌, List, [], ◌∷◌, ◌++◌, Bool, true, false, ◌&&◌, map, Option}
+use Rattle.std.proofs.Common.{ℕ, ◌≡◌, refl, ap, sym, ◌∙◌, List, [], ◌∷◌, ◌++◌, Bool, true, false, ◌&&◌, map}
 use Rattle.std.specs.Option.{option_map}
 use Rattle.std.proofs.lemmas.List.Folds.{list_all-append}
 use Rattle.lb_tree.specs.declared.query.Chain.{Chain}
@@ -12,7 +12,7 @@ use Rattle.lb_names.specs.Marks.{Marks, JoinMarks, ChainMarks, marked, mark_step
 use Rattle.lb_names.specs.Scopes.{Catalogue}
 use Rattle.lb_names.specs.Passes.{all_own, is_own}
 use Rattle.lb_names.specs.Carriers.{chain_marked, Says, Shows, Answers}
-use Rattle.lb_names.specs.Typing.{steps, says, shows, chains, answers}
+use Rattle.lb_names.specs.Typing.{says, shows, chains, answers}
 use Rattle.lb_names.proofs.Carried.{carried_chain}
 use Rattle.lb_walk.specs.Opened.{chain_of, own_joins, own_chains}
 use Rattle.lb_walk.proofs.Opens.{chains_out, answers_out}

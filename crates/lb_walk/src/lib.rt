@@ -1,5 +1,5 @@
-//! Walks over queries, conditions and expressions that answer yes or no: whether there is an aggregate or arithmetic,
-//! whether all columns belong to one query, whether two expressions are the same.
+//! Walks over queries, conditions and expressions that answer yes or no: whether there is an aggregate or arithmetic, and
+//! whether all columns belong to one query.
 #![tactic(auto)]
 
 mod own;

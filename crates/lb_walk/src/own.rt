@@ -1,7 +1,6 @@
 // Whether all names in an aggregate's argument belong to the aggregate's own query. A `*` belongs to a query inside the argument, so
 // it never does.
 ghost use Rattle.std.specs.Prelude.{◌≡◌, ◌++◌, ◌∷◌, [], IfOk, List, map};
-ghost use Rattle.std.specs.List.{list_all};
 ghost use Rattle.std.specs.Option.{option_map};
 ghost use Rattle.lb_names.specs.Carriers.{chain_marked};
 ghost use Rattle.lb_names.specs.Marks as marks;
