@@ -1,0 +1,12 @@
+use Rattle.std.proofs.Common.{◌≡◌, ap, ◌∙◌}
+use Rattle.lb_base.specs.declared.key.Key.TheVariants as keys
+use Rattle.lb_cat.specs.Stamps.{Kept, look, with_kept_table}
+use Rattle.lb_changed.proofs.Stamps.{all_stay, table_stamp}
+use Rattle.lb_changed.proofs.put.with_table.Goals as goal
+
+pub returns-clause-stamps : goal.returns-clause-stamps
+returns-clause-stamps c =
+    let K : Kept = c.args.catalog.now in
+    let put : c.put_table.new.self ≡ with_kept_table c.args.rec K = c.in_ok-put_table.ensures.kept ∙ ap (λ r. with_kept_table r c.in_ok-changed.changed) c.in_ok-new.ensures.ok ∙ ap (with_kept_table c.args.rec) c.in_ok-changed.ensures in
+    all_stay K c.put_table.new.self (keys.Table c.args.rec.name) c.args.rec.stamp (table_stamp K c.args.rec.name) c.requires
+    (λ k. ap (λ (L : Kept). look L k) put ∙ (c.stamps_follow_their_records.ensures K).put_table c.args.rec k)
