@@ -1,5 +1,5 @@
 // The catalogue that the program keeps: five kinds of records, each found by name and by place.
-ghost use Rattle.std.specs.Prelude.{◌≡◌, find, is_some, slice_get, IfOk, OnErr, OnOk};
+ghost use Rattle.std.specs.Prelude.{◌≡◌, find, is_some, length, slice_get, IfOk, OnErr, OnOk};
 ghost use Rattle.std.specs.Option.{option_map};
 ghost use Rattle.std.specs.Arc.{arc_value};
 ghost use Rattle.lb_base.specs.declared.key.Key.{Key as AnyKey};
@@ -149,6 +149,14 @@ impl Catalog {
         self.tables.remove(name);
     }
 
+    /// How many tables there are.
+    pub fn table_count(&self) -> usize
+        ensures kept { result ≡ length self.now.tables }
+        ensures bare { result ≡ length (bare self.now).tables }
+    {
+        self.tables.len()
+    }
+
     /// The table in this place, counted from 0 in the order of making. None exactly past the last.
     pub fn table_at(&self, place: usize) -> Option<&Arc<TableRec>>
         ensures kept { option_map (λ r. arc_value r.now) result ≡ slice_get self.now.tables place }
@@ -183,6 +191,14 @@ impl Catalog {
         ensures bare { bare self.new ≡ cat.drop_policy name.now (bare self.old) }
     {
         self.policies.remove(name);
+    }
+
+    /// How many policies there are.
+    pub fn policy_count(&self) -> usize
+        ensures kept { result ≡ length self.now.policies }
+        ensures bare { result ≡ length (bare self.now).policies }
+    {
+        self.policies.len()
     }
 
     /// The policy in this place, counted from 0 in the order of making. None exactly past the last.
@@ -229,6 +245,14 @@ impl Catalog {
         self.components.remove(name);
     }
 
+    /// How many components there are.
+    pub fn component_count(&self) -> usize
+        ensures kept { result ≡ length self.now.components }
+        ensures bare { result ≡ length (bare self.now).components }
+    {
+        self.components.len()
+    }
+
     /// The component in this place, counted from 0 in the order of making. None exactly past the last.
     pub fn component_at(&self, place: usize) -> Option<&Arc<ComponentRec>>
         ensures kept { option_map (λ r. arc_value r.now) result ≡ slice_get self.now.components place }
@@ -255,6 +279,14 @@ impl Catalog {
         ensures err { OnErr result (self.new ≡ self.old) }
     {
         self.users.put(rec)
+    }
+
+    /// How many users there are.
+    pub fn user_count(&self) -> usize
+        ensures kept { result ≡ length self.now.users }
+        ensures bare { result ≡ length (bare self.now).users }
+    {
+        self.users.len()
     }
 
     /// The user in this place, counted from 0 in the order of making. None exactly past the last.
@@ -291,6 +323,14 @@ impl Catalog {
         ensures bare { bare self.new ≡ cat.drop_role name.now (bare self.old) }
     {
         self.roles.remove(name);
+    }
+
+    /// How many roles there are.
+    pub fn role_count(&self) -> usize
+        ensures kept { result ≡ length self.now.roles }
+        ensures bare { result ≡ length (bare self.now).roles }
+    {
+        self.roles.len()
     }
 
     /// The role in this place, counted from 0 in the order of making. None exactly past the last.

@@ -19,7 +19,8 @@ use Rattle.lb_alter.proofs.Untouched.{turned, or_left, or_right, named_there}
 use Rattle.lb_kinds.specs.Given.{CheckedMasksFit}
 use Rattle.lb_kinds.specs.Settings.{SameColumn, MasksFit, columns_in}
 use Rattle.lb_names.specs.Kinds.{kind_of}
-use Rattle.lb_fits.specs.Masks.{RefusesUntypedMasks, HasDays, MasksHaveDays, SoundMasksFit}
+use Rattle.lb_fits.specs.Dated.{MaskHasDays, StoresDays, CatalogStoresDays}
+use Rattle.lb_fits.specs.Masks.{RefusesUntypedMasks, SoundMasksFit}
 use Rattle.lb_fits.proofs.Steps.{left_true, right_true, not_false}
 
 -- ---- a column's name means that column
@@ -83,16 +84,16 @@ controlled false o m e = absurd cc
 -- ---- the masks of a table
 
 module _ (checked : CheckedMasksFit) where
-  table_masks : (rules : StoredRules) (N : Catalogue) (C : Cat) → IsSound rules C → RefusesUntypedMasks rules N C → AllByRecursion MasksHaveDays C.tables → (n : List ℕ)
+  table_masks : (rules : StoredRules) (N : Catalogue) (C : Cat) → IsSound rules C → RefusesUntypedMasks rules N C → CatalogStoresDays C → (n : List ℕ)
       → (o : Option Table) → table_named C n ≡ o → AllZip SameColumn (listed (N.columns n)) (columns_in o) → MasksFit N n o
   table_masks rules N C s typed days n None e same = tt
   table_masks rules N C s typed days n (Some t) e same = λ at c m there mask.
       let stored : StoresValid rules C t = all_found (StoresValid rules C) (is_table n) C.tables t s.stored e in
       let its : HasItsColumns t = all_found HasItsColumns (is_table n) C.tables t s.columns e in
-      let dated : MasksHaveDays t = all_found MasksHaveDays (is_table n) C.tables t days e in
+      let dated : StoresDays t = all_found StoresDays (is_table n) C.tables t days e in
       let found : find (λ m. m.enabled && m.column == at) t.masks ≡ Some m = controlled t.column_control (find (λ m. m.enabled && m.column == at) t.masks) m mask in
       let valid : Enabled (IsValidMask rules C t) at m = enabled (IsValidMask rules C t) at t.masks m stored.masks found in
-      let day : Enabled HasDays at m = enabled HasDays at t.masks m dated found in
+      let day : Enabled MaskHasDays at m = enabled MaskHasDays at t.masks m dated.1 found in
       let here : slice_get t.columns m.column ≡ Some c = ap (slice_get t.columns) valid.place ∙ there in
       let types : TypesAt rules C t m (Some c) = subst (TypesAt rules C t m) here valid.its.types in
       let name : t.name ≡ n = named_there (λ (x : Table). x.name) n C.tables t e in

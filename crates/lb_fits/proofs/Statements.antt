@@ -47,7 +47,8 @@ use Rattle.lb_kinds.specs.Selected.{SelectsGiveTheirKinds}
 use Rattle.lb_kinds.specs.Settings.{columns_in, SameColumn, Knows, GuardedAgrees}
 use Rattle.lb_kinds.specs.Standing.{PieceFits, HoldsFor}
 use Rattle.lb_fits.specs.Given.{GivesPlaces}
-use Rattle.lb_fits.specs.Statements.{IsReady, SourceHasDays, UpdatesFit, InsertsFit, WritesFit}
+use Rattle.lb_fits.specs.Dated.{SourceHasDays}
+use Rattle.lb_fits.specs.Statements.{IsReady, UpdatesFit, InsertsFit, WritesFit}
 use Rattle.lb_fits.proofs.Columns.{loosely}
 use Rattle.lb_fits.proofs.Deleting.{deletes_fit}
 use Rattle.lb_fits.proofs.Putting.{rows_there, answer_fits}

@@ -1,3 +1,4 @@
+pub mod Dated
 pub mod Given
 pub mod Laws
 pub mod Statements

@@ -1,11 +1,9 @@
 -- What is said of whole statements: a write keeps that all tables fit.
 use Rattle.std.specs.Prelude.{ℕ, ℤ, ◌≡◌, List, [], Some, None}
-use Rattle.std.specs.List.{AllByRecursion, AllZip}
+use Rattle.std.specs.List.{AllZip}
 use Rattle.lb_base.specs.Days.{IsDay}
 use Rattle.lb_base.specs.declared.key.Key.{Key}
 use Rattle.lb_stmt.specs.declared.write.Insert.{Insert}
-use Rattle.lb_stmt.specs.declared.write.InsertSource.{InsertSource}
-use Rattle.lb_stmt.specs.declared.write.InsertSource.TheVariants as sources
 use Rattle.lb_stmt.specs.declared.write.Stmt.{Stmt}
 use Rattle.lb_stmt.specs.declared.write.Stmt.TheVariants as stmts
 use Rattle.lb_stmt.specs.declared.write.Update.{Update}
@@ -20,8 +18,8 @@ use Rattle.lb_alter.specs.Fits.{CredFits}
 use Rattle.lb_alter.specs.Laws.{AllTablesFit}
 use Rattle.lb_alter.specs.Sound.{IsSound}
 use Rattle.lb_alter.specs.Stored.{StoredRules}
-use Rattle.lb_kinds.specs.Days.{days_in, days_in_query, AreDays}
 use Rattle.lb_kinds.specs.Settings.{SameColumn, Knows, MasksFit, columns_in}
+use Rattle.lb_fits.specs.Dated.{WritesDays}
 use Rattle.lb_fits.specs.Laws.{LeavesFit}
 
 -- ---- before a write
@@ -35,19 +33,6 @@ pub record IsReady (rules : StoredRules) (N : Catalogue) (C : Cat) (c : Cred) (T
   pub knows : Knows N C T
   pub credentials : (ks : List Key) → CredFits ks C c
   pub is_day : IsDay day
-
--- the DATE literals of VALUES or of the query are days
-abbrev pub SourceHasDays : InsertSource → Type 0
-SourceHasDays (sources.Rows rows) = AllByRecursion (λ es. AllByRecursion (λ e. AreDays (days_in e)) es) rows
-SourceHasDays (sources.Query s) = AreDays (days_in_query s.query)
-
--- so are those of the values that a statement writes
-abbrev pub WritesDays : Stmt → Type 0
-WritesDays (stmts.Select s) = Unit {0}
-WritesDays (stmts.Insert i) = SourceHasDays i.source
-WritesDays (stmts.Update u) = AllByRecursion (λ a. AreDays (days_in a.value)) u.assignments
-WritesDays (stmts.Delete d) = Unit {0}
-WritesDays (stmts.Change c) = Unit {0}
 
 -- ---- what names and types know
 

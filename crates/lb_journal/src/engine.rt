@@ -5,6 +5,7 @@ ghost use Rattle.lb_rows.specs.Stamped.{rows_only};
 ghost use Rattle.lb_cat.specs.Stamps.{bare};
 ghost use Rattle.lb_alter.specs.Naming.{stored_rules};
 ghost use Rattle.lb_alter.specs.Sound.{IsSound};
+ghost use Rattle.lb_fits.specs.Dated.{CatalogStoresDays, IsDated};
 ghost use Rattle.lb_journal.specs.Engine.{Gives, RightFor};
 ghost use Rattle.lb_journal.specs.Told.{is_change};
 
@@ -45,9 +46,12 @@ pub trait Engine {
     ghost builds: { Cat → AnyStmt → Bool };
 
     /// The plan of a query or a write in a sound catalogue, right for it there. A statement that is refused whatever the session has a
-    /// plan too. NoMemory where memory is refused.
+    /// plan too. The DATE literals of the statement and of what the catalogue stores are days of the calendar, as those of every text that
+    /// is read are. NoMemory where memory is refused.
     fn compile(alloc: Global, catalog: &Catalog, stmt: &Stmt) -> Result<Self::Plan, NoMemory>
         requires sound { IsSound stored_rules (bare catalog.now) }
+        requires stored { CatalogStoresDays (bare catalog.now) }
+        requires days { IsDated stmt.now }
         requires kind { is_change stmt.now ≡ false }
         requires built { IsTrue (builds (bare catalog.now) stmt.now) }
         ensures right { IfOk result (λ p. RightFor means takes p (bare catalog.now) stmt.now) };

@@ -12,7 +12,7 @@ use Rattle.lb_tok.specs.Grammar.{IsSortKey, IsOrder, IsSelect, IsSource, IsInser
 use Rattle.lb_tok.specs.Changes.{IsStmt}
 use Rattle.lb_tok.specs.Spelled.{IsSpoken}
 use Rattle.lb_kinds.specs.Days.{days_in, AreDays}
-use Rattle.lb_spoken.specs.Laws.{SelectHasDays, FilterHasDays, SourceReadsDays, ReadsDays}
+use Rattle.lb_fits.specs.Dated.{SelectHasDays, FilterHasDays, SourceReadsDays, ReadsDays}
 use Rattle.lb_spoken.proofs.Gives.{Gives, IfGiven, anything, nothing, after, made, either, seq, past, listed, spoken_gives}
 use Rattle.lb_spoken.proofs.Trees.{CondHas}
 use Rattle.lb_spoken.proofs.Terms.{Inside, step, expr_has}

@@ -16,7 +16,7 @@ use Rattle.lb_tok.specs.Grammar.{IsSelect, IsRow, IsSource, IsInsert, IsAssignme
 use Rattle.lb_tok.specs.Changes.{IsPermission, IsMask, IsCreateTable, IsCreateLabel, IsCreatePolicy, IsCreate, IsAdded, IsAlteredColumn, IsAlterTable, IsAlter, IsDropLabel, IsDrop, IsGrant, IsRevoke, IsChange, IsStmt}
 use Rattle.lb_tok.specs.Spelled.{IsSpoken}
 use Rattle.lb_kinds.specs.Days.{days_in, days_in_cond, days_in_query, AreDays}
-use Rattle.lb_fits.specs.Statements.{SourceHasDays, WritesDays}
+use Rattle.lb_fits.specs.Dated.{SourceHasDays, WritesDays}
 use Rattle.lb_spoken.specs.Laws.{DefinesDays}
 use Rattle.lb_spoken.proofs.Gives.{Gives, anything, means, after, made, either, seq, past, bracket, listed, spoken_gives}
 use Rattle.lb_spoken.proofs.Trees.{CondHas, Has, QueryHas}

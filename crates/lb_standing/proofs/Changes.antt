@@ -1,4 +1,4 @@
--- Each change keeps that the DATE literals of masks are days, and that no rows stand under a name that is no table's, statement by statement.
+-- Each change keeps that the DATE literals of permissions and masks are days, and that no rows stand under a name that is no table's, statement by statement.
 use Rattle.std.proofs.Common.{refl, ℕ, true, false, not, ◌||◌, List, [], ◌∷◌, map, length, Ok, Err, is_some}
 use Rattle.std.specs.Prelude.{find, filter, option_map, nat_lt}
 use Rattle.lb_base.specs.declared.key.Key.TheVariants as keys
@@ -28,7 +28,7 @@ use Rattle.lb_cat.specs.Holdings.{has_holding_of, holding_of, holds_label, with_
 use Rattle.lb_cat.specs.declared.catalog.Holding.{Holding}
 use Rattle.lb_rows.specs.Tables.{Tables}
 use Rattle.lb_alter.specs.Stored.{calls_label, calls_policy}
-use Rattle.lb_fits.specs.Masks.{MasksHaveDays}
+use Rattle.lb_fits.specs.Dated.{StoresDays}
 use Rattle.lb_spoken.specs.Laws.{DefinesDays}
 use Rattle.lb_alter.specs.Naming.{stored_rules}
 use Rattle.lb_standing.proofs.Kept.{Kept, LeavesKept, test_kept, done_kept, found_kept, made_kept, owner_kept, alters_kept, grants_kept, revokes_kept}
@@ -111,11 +111,11 @@ module _ (C : Cat) (T : Tables) (f : Kept C.tables T) (user : List ℕ) where
   revoke_secadm_kept : (n : List ℕ) → LeavesKept (revoke_secadm C T user n)
   revoke_secadm_kept n = test_kept (secadm C user) _ (λ _. revokes_kept C T f n (with_secadm false))
 
-  grant_to_kept : (t : Table) → MasksHaveDays t → (ps : List Privilege) (to : Grantee) → LeavesKept (grant_to C T t ps to)
+  grant_to_kept : (t : Table) → StoresDays t → (ps : List Privilege) (to : Grantee) → LeavesKept (grant_to C T t ps to)
   grant_to_kept t e ps (grantees.User n) = grants_kept C T f n (with_user_privileges true ps t.name)
   grant_to_kept t e ps grantees.Public = alters_kept C T f _ e
 
-  revoke_from_kept : (t : Table) → MasksHaveDays t → (ps : List Privilege) (from : Grantee) → LeavesKept (revoke_from C T t ps from)
+  revoke_from_kept : (t : Table) → StoresDays t → (ps : List Privilege) (from : Grantee) → LeavesKept (revoke_from C T t ps from)
   revoke_from_kept t e ps (grantees.User n) = revokes_kept C T f n (with_user_privileges false ps t.name)
   revoke_from_kept t e ps grantees.Public = alters_kept C T f _ e
 
@@ -133,7 +133,7 @@ module _ (C : Cat) (T : Tables) (f : Kept C.tables T) (user : List ℕ) where
   attempt_kept (changes.SecureColumn n column label) _ = secure_column_kept C T f user n column label
   attempt_kept (changes.UnsecureColumn n column) _ = unsecure_column_kept C T f user n column
   attempt_kept (changes.Activate n first second) _ = activate_kept C T f user n first second
-  attempt_kept (changes.CreatePermission d) _ = create_permission_kept C T f user d
+  attempt_kept (changes.CreatePermission d) days = create_permission_kept C T f user d days
   attempt_kept (changes.CreateMask d) days = create_mask_kept C T f user d days
   attempt_kept (changes.SwitchPermission n s) _ = switch_permission_kept C T f user n s
   attempt_kept (changes.SwitchMask n s) _ = switch_mask_kept C T f user n s

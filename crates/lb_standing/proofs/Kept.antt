@@ -1,4 +1,4 @@
--- What changes keep beside soundness: the DATE literals of masks are days, and no rows stand under a name that is no table's.
+-- What changes keep beside soundness: the DATE literals of permissions and masks are days, and no rows stand under a name that is no table's.
 use Rattle.std.proofs.Common.{◌≡◌, refl, sym, subst, ◌∙◌, ℕ, true, false, not, List, [], ◌∷◌, Option, Some, None, Ok, Err}
 use Rattle.std.specs.Prelude.{find}
 use Rattle.std.specs.List.{AllByRecursion}
@@ -18,11 +18,11 @@ use Rattle.lb_cat.specs.OrRefused.{OrRefused, ◌>>=◌}
 use Rattle.lb_alter.proofs.SoundTables.{put_case, found_put, found_without}
 use Rattle.lb_alter.proofs.SoundUsers.{all_put, all_filter}
 use Rattle.lb_alter.proofs.Untouched.{without_other}
-use Rattle.lb_fits.specs.Masks.{MasksHaveDays}
+use Rattle.lb_fits.specs.Dated.{StoresDays}
 
--- the tables' masks have days, and rows stand under the tables' names alone
+-- the DATE literals of the tables' permissions and masks are days, and rows stand under the tables' names alone
 pub record Kept (ts : List Table) (T : Tables) : Type 0 where
-  pub masks : AllByRecursion MasksHaveDays ts
+  pub days : AllByRecursion StoresDays ts
   pub nowhere : (n : List ℕ) → find (is_table n) ts ≡ None → rows_of n T ≡ []
 
 -- ---- blocks
@@ -78,19 +78,19 @@ module _ (u : Table) (ts : List Table) (n : List ℕ) where
 
 module _ (C : Cat) (T : Tables) (f : Kept C.tables T) where
   -- the record of a table is put
-  put_kept : (u : Table) → MasksHaveDays u → Kept (put_table u C).tables T
+  put_kept : (u : Table) → StoresDays u → Kept (put_table u C).tables T
   put_kept u days = record {
-    masks = all_put MasksHaveDays (is_table u.name) u C.tables f.masks days;
+    days = all_put StoresDays (is_table u.name) u C.tables f.days days;
     nowhere = λ n none. f.nowhere n (before u C.tables n none);
   }
 
-  pub alters_kept : (u : Table) → MasksHaveDays u → LeavesKept (alters C T u)
+  pub alters_kept : (u : Table) → StoresDays u → LeavesKept (alters C T u)
   alters_kept u days = done_kept (put_table u C) T (keys.Table u.name ∷ []) (put_kept u days)
 
   -- so are its rows
-  pub put_both : (u : Table) (v : Version) → u.name ≡ v.name → MasksHaveDays u → Kept (put_table u C).tables (put_version v T)
+  pub put_both : (u : Table) (v : Version) → u.name ≡ v.name → StoresDays u → Kept (put_table u C).tables (put_version v T)
   put_both u v same days = record {
-    masks = all_put MasksHaveDays (is_table u.name) u C.tables f.masks days;
+    days = all_put StoresDays (is_table u.name) u C.tables f.days days;
     nowhere = λ n none. put_case (λ (x : Version). x.name) (λ (o : Option Version). rows_in o ≡ []) v T n
         (λ e. absurd (other u C.tables n none (same ∙ e)))
         (f.nowhere n (before u C.tables n none));
@@ -99,7 +99,7 @@ module _ (C : Cat) (T : Tables) (f : Kept C.tables T) where
   -- a table goes with its rows
   pub without_table : (n : List ℕ) → Kept (without (is_table n) C.tables) (without (is_version n) T)
   without_table n = record {
-    masks = all_filter MasksHaveDays (λ t. not (is_table n t)) C.tables f.masks;
+    days = all_filter StoresDays (λ t. not (is_table n t)) C.tables f.days;
     nowhere = λ m none.
         elim (bytes_eq n m) as (λ b. bytes_eq n m ≡ b → rows_in (find (is_version m) (without (is_version n) T)) ≡ []) [
           | true ↦ λ e. subst (λ (k : List ℕ). rows_in (find (is_version k) (without (is_version n) T)) ≡ []) ((bytes_eq-Decides n m).0 e)

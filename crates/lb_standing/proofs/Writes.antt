@@ -62,7 +62,7 @@ module _ (credentials : CredentialsFit stored_rules) (writes : WritesFit) (known
   ready S h user groups day d = record {
     sound = h.sound;
     tables = h.tables;
-    masks = masks stored_rules (named_in S.cat) S.cat h.sound (refuses_untyped S.cat) h.masks (columns_seen S.cat);
+    masks = masks stored_rules (named_in S.cat) S.cat h.sound (refuses_untyped S.cat) h.days (columns_seen S.cat);
     knows = known stored_rules (named_in S.cat) S.cat S.tables h.sound h.tables (columns_seen S.cat) h.nowhere;
     credentials = λ ks. credentials S.cat h.sound user groups ks;
     is_day = d;
@@ -77,14 +77,14 @@ module _ (credentials : CredentialsFit stored_rules) (writes : WritesFit) (known
 
   answer_stands : (at : ℕ) (S : State) (user : List ℕ) (groups : List (List ℕ)) (day : ℤ) (s : Stmt) → IsDay day → IsSpoken s → IsStanding S
       → (a : Answered) → answered_to S.cat (cred S.cat user groups) S.tables day s ≡ a → (o : Option Version) → a.table ≡ o → IsStanding (left_by at S.stamp (record { cat = S.cat; tables = put_maybe o S.tables; touched = []; reply = a.reply }))
-  answer_stands at S user groups day s d spoken h a is None e = record { sound = h.sound; tables = h.tables; masks = h.masks; nowhere = h.nowhere }
+  answer_stands at S user groups day s d spoken h a is None e = record { sound = h.sound; tables = h.tables; days = h.days; nowhere = h.nowhere }
   answer_stands at S user groups day s d spoken h a is (Some v) e =
       let left : (answered_to S.cat (cred S.cat user groups) S.tables day s).table ≡ Some v = ap (λ (x : Answered). x.table) is ∙ e in
       let w : Wrote S.cat (statement_refused S.cat.tables S.cat.policies s) v = wrote S.cat statement_refused (cred S.cat user groups) S.tables day s v left in
       record {
         sound = h.sound;
         tables = writes stored_rules (named_in S.cat) statement_refused S.cat (cred S.cat user groups) S.tables day s (ready S h user groups day d) (days s spoken) (types_passed S.cat s w.passed) v left;
-        masks = h.masks;
+        days = h.days;
         nowhere = put_nowhere S.cat S.tables v w.there h.nowhere;
       }
 
@@ -92,7 +92,7 @@ module _ (credentials : CredentialsFit stored_rules) (writes : WritesFit) (known
       → IsStanding (left_by at S.stamp (answered S.cat S.tables (answered_to S.cat (cred S.cat user groups) S.tables day s)))
   stands at S user groups day s d spoken h =
       let x = answer_stands at S user groups day s d spoken h (answered_to S.cat (cred S.cat user groups) S.tables day s) refl (answered_to S.cat (cred S.cat user groups) S.tables day s).table refl in
-      record { sound = x.sound; tables = x.tables; masks = x.masks; nowhere = x.nowhere }
+      record { sound = x.sound; tables = x.tables; days = x.days; nowhere = x.nowhere }
 
   pub writes_stay : WritesStayStanding
   writes_stay (stmts.Select s) k at S user groups day d spoken h = stands at S user groups day (stmts.Select s) d spoken h

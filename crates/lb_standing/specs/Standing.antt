@@ -1,18 +1,17 @@
 -- What stands when it is sound and its tables fit.
 use Rattle.std.specs.Prelude.{ℕ, ◌≡◌, List, [], None}
-use Rattle.std.specs.List.{AllByRecursion}
 use Rattle.lb_cat.specs.Catalog.{table_named}
 use Rattle.lb_rows.specs.Tables.{rows_of}
 use Rattle.lb_alter.specs.Laws.{AllTablesFit}
 use Rattle.lb_alter.specs.Sound.{IsSound}
-use Rattle.lb_fits.specs.Masks.{MasksHaveDays}
+use Rattle.lb_fits.specs.Dated.{CatalogStoresDays}
 use Rattle.lb_alter.specs.Naming.{stored_rules}
 use Rattle.lb_journal.specs.State.{State}
 
--- The catalogue is sound under the rules of names and types, all its tables have rows that fit them, the DATE literals of all masks are
--- days of the calendar, and there are no rows under a name that is no table's.
+-- The catalogue is sound under the rules of names and types, all its tables have rows that fit them, the DATE literals of all permissions and
+-- masks are days of the calendar, and there are no rows under a name that is no table's.
 pub record IsStanding (S : State) : Type 0 where
   pub sound : IsSound stored_rules S.cat
   pub tables : AllTablesFit S.cat S.tables
-  pub masks : AllByRecursion MasksHaveDays S.cat.tables
+  pub days : CatalogStoresDays S.cat
   pub nowhere : (n : List ℕ) → table_named S.cat n ≡ None → rows_of n S.tables ≡ []

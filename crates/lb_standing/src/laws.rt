@@ -24,8 +24,8 @@ pub fn writes_stay_standing()
     lb_spoken::spoken_statements_have_days();
 }
 
-/// After a change of the catalogue that some text spells, what stands is sound and its tables fit, where it was so before: CREATE MASK alone
-/// adds a mask, whose DATE literals are those that are written, and DROP TABLE takes the rows of the table away.
+/// After a change of the catalogue that some text spells, what stands is sound and its tables fit, where it was so before: what CREATE
+/// PERMISSION and CREATE MASK store has the DATE literals that are written, and DROP TABLE takes the rows of the table away.
 pub fn changes_stay_standing()
     ensures { ChangesStayStanding }
 {
