@@ -13,12 +13,13 @@ use Rattle.lb_label.specs.Label.{IsLabel}
 use Rattle.lb_cat.specs.declared.catalog.ColumnRec.{ColumnRec}
 use Rattle.lb_cat.specs.declared.catalog.Holding.{Holding}
 use Rattle.lb_cat.specs.declared.catalog.LabelRec.{LabelRec}
-use Rattle.lb_rows.specs.KeyValues.{is_null, keys_differ}
+use Rattle.lb_base.specs.Conditions.{is_null}
+use Rattle.lb_rows.specs.KeyValues.{keys_differ}
 use Rattle.lb_rows.specs.Tables.{Tables, Version, is_version}
-use Rattle.lb_cat.specs.Catalog.{Cat, Table, Policy, table_named, policy_named, label_named, user_named, is_label, is_policy, first_cat, no_user}
+use Rattle.lb_cat.specs.Catalog.{Cat, Table, Policy, table_named, policy_named, label_named, user_named, is_label, is_policy, first_cat, no_user, IsLabelOf}
 use Rattle.lb_cat.specs.Credentials.{held_parts, parts_in, cred_label, cred}
 use Rattle.lb_alter.specs.ChangeTable.{is_label_type}
-use Rattle.lb_alter.specs.Fits.{IsLabelIfHeld, FitsPolicy, FitsIfThere, IsLabelOf, HasType, FitsColumn, FitsTable, RowsFit, FitsRecord, TablesFit}
+use Rattle.lb_alter.specs.Fits.{IsLabelIfHeld, FitsPolicy, FitsIfThere, HasType, FitsColumn, FitsTable, RowsFit, FitsRecord, TablesFit}
 use Rattle.lb_alter.specs.Laws.{CredentialsFit, FirstTablesFit, AllTablesFit}
 use Rattle.lb_alter.specs.Sound.{IsSound}
 use Rattle.lb_alter.specs.Stored.{StoredRules}

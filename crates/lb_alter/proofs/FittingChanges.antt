@@ -20,14 +20,14 @@ use Rattle.lb_cat.specs.declared.refusal.NeededPrivilege.TheVariants as needed
 use Rattle.lb_rows.specs.KeyValues.{are_keys, keys_differ, value_at}
 use Rattle.lb_rows.specs.Lists.{put, without}
 use Rattle.lb_rows.specs.Tables.{Tables, Version, is_version, put_version, rows_in, rows_of}
-use Rattle.lb_cat.specs.Catalog.{Cat, Table, Policy, User, table_named, policy_named, is_table, put_table, put_policy, drop_table, drop_policy}
+use Rattle.lb_cat.specs.Catalog.{Cat, Table, Policy, User, table_named, policy_named, is_table, put_table, put_policy, drop_table, drop_policy, IsLabelOf}
 use Rattle.lb_cat.specs.Privileges.{without_grant}
 use Rattle.lb_cat.specs.Holdings.{without_holding, is_same_name}
 use Rattle.lb_alter.specs.AlterTable.{with_null, plain_column, secure, change_column}
 use Rattle.lb_alter.specs.ChangeGrant.{grants, revokes, taken_from, user_or_new}
 use Rattle.lb_alter.specs.ChangePolicy.{has_policy}
 use Rattle.lb_alter.specs.ChangeTable.{new_table}
-use Rattle.lb_alter.specs.Fits.{IsLabelOf, FitsColumn, FitsTable, RowsFit, FitsRecord}
+use Rattle.lb_alter.specs.Fits.{FitsColumn, FitsTable, RowsFit, FitsRecord}
 use Rattle.lb_alter.specs.Labelled.{ColumnBelongs, LabelsBelong, IsOfPolicy}
 use Rattle.lb_alter.specs.Named.{AreDifferent}
 use Rattle.lb_alter.specs.Refusing.{Changed, ◌>>◌, when, found, owner, done, alters, alters_policy}

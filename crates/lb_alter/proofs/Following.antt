@@ -9,11 +9,11 @@ use Rattle.lb_base.specs.declared.key.Ty.TheVariants as types
 use Rattle.lb_cat.specs.declared.catalog.ColumnRec.{ColumnRec}
 use Rattle.lb_cat.specs.declared.cred.Cred.{Cred}
 use Rattle.lb_rows.specs.Tables.{Tables, is_version}
-use Rattle.lb_cat.specs.Catalog.{Cat, Table, Policy, table_named, policy_named, is_table}
+use Rattle.lb_cat.specs.Catalog.{Cat, Table, Policy, table_named, policy_named, is_table, IsLabelOf}
 use Rattle.lb_names.specs.Mentions.{Mentions, in_stmt}
 use Rattle.lb_alter.specs.Stored.{StoredRules}
 use Rattle.lb_alter.specs.Deps.{deps, deps_of, tables_for, policies_for, components_for, policy_name_of}
-use Rattle.lb_alter.specs.Fits.{IsLabelOf, FitsIfThere, CredFitsKey, CredFits, FitsRecord, TablesFitKey, TablesFit}
+use Rattle.lb_alter.specs.Fits.{FitsIfThere, CredFitsKey, CredFits, FitsRecord, TablesFitKey, TablesFit}
 use Rattle.lb_alter.specs.Frame.{SameOn}
 use Rattle.lb_alter.specs.Labelled.{ColumnBelongs, LabelsBelong, IsOfPolicy}
 use Rattle.lb_alter.specs.Named.{IfGiven}

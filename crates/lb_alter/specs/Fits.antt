@@ -15,9 +15,10 @@ use Rattle.arrayvec.specs.ArrayVec.{ArrayVec}
 use Rattle.lb_cat.specs.declared.catalog.ColumnRec.{ColumnRec}
 use Rattle.lb_cat.specs.declared.cred.Cred.{Cred}
 use Rattle.lb_cat.specs.declared.cred.CredLabel.{CredLabel}
-use Rattle.lb_rows.specs.KeyValues.{is_null, keys_differ}
+use Rattle.lb_base.specs.Conditions.{is_null}
+use Rattle.lb_rows.specs.KeyValues.{keys_differ}
 use Rattle.lb_rows.specs.Tables.{Version, Tables, is_version}
-use Rattle.lb_cat.specs.Catalog.{Cat, Table, Policy, table_named, policy_named}
+use Rattle.lb_cat.specs.Catalog.{Cat, Table, Policy, table_named, policy_named, IsLabelOf}
 use Rattle.lb_alter.specs.ChangeTable.{is_label_column}
 
 -- ---- credentials
@@ -49,11 +50,6 @@ abbrev pub CredFits : List Key → Cat → Cred → Type 0
 CredFits ks C c = AllByRecursion (CredFitsKey C c) ks
 
 -- ---- rows
-
--- a label of that policy
-abbrev pub IsLabelOf : Option Policy → List ℕ → Type 0
-IsLabelOf None parts = ⊥
-IsLabelOf (Some p) parts = IsLabel p.shape parts
 
 -- the value is null or of the type: a text within its width, a day of the clock's range, a label of its policy
 abbrev pub HasType : Cat → Ty → Value → Type 0

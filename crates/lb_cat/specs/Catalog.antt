@@ -1,8 +1,9 @@
 -- The catalogue: five lists of records in the order of first making. A record has no stamp here.
-use Rattle.std.specs.Prelude.{ℕ, Bool, true, false, List, [], ◌∷◌, find, Option, codes}
+use Rattle.std.specs.Prelude.{ℕ, Bool, true, false, List, [], ◌∷◌, find, Option, Some, None, codes}
 use Rattle.std.specs.List.{list_any}
 use Rattle.std.specs.Str.{bytes_eq}
 use Rattle.lb_label.specs.Component.{Definition}
+use Rattle.lb_label.specs.Label.{IsLabel}
 use Rattle.lb_cat.specs.declared.catalog.ColumnRec.{ColumnRec}
 use Rattle.lb_cat.specs.declared.catalog.PermissionRec.{PermissionRec}
 use Rattle.lb_cat.specs.declared.catalog.MaskRec.{MaskRec}
@@ -93,6 +94,11 @@ table_named C n = find (is_table n) C.tables
 -- the policy
 abbrev pub policy_named : Cat → List ℕ → Option Policy
 policy_named C n = find (is_policy n) C.policies
+
+-- the parts are a label of the policy, which is there
+abbrev pub IsLabelOf : Option Policy → List ℕ → Type 0
+IsLabelOf None parts = ⊥
+IsLabelOf (Some p) parts = IsLabel p.shape parts
 
 -- the component
 abbrev pub component_named : Cat → List ℕ → Option Component

@@ -7,7 +7,8 @@ use Rattle.lb_base.specs.declared.value.Value.{Value}
 use Rattle.lb_base.specs.Compare.{equal_of}
 use Rattle.lb_cat.specs.declared.reply.Verb.TheVariants as verbs
 use Rattle.lb_cat.specs.Catalog.{Cat, Table}
-use Rattle.lb_rows.specs.KeyValues.{is_null, is_true, is_repeated, are_keys, value_at, keys_differ}
+use Rattle.lb_base.specs.Conditions.{is_null}
+use Rattle.lb_rows.specs.KeyValues.{is_true, is_repeated, are_keys, value_at, keys_differ}
 use Rattle.lb_rows.specs.Tables.{rows_of}
 use Rattle.lb_mean.specs.Refused.{policy_of_table}
 use Rattle.lb_mean.specs.Visible.{guarded, unguarded}

@@ -11,7 +11,8 @@ use Rattle.lb_base.specs.Compare.{equal_of, truth_of}
 use Rattle.lb_base.specs.Truths.{is_true}
 use Rattle.lb_cat.specs.declared.catalog.ColumnRec.{ColumnRec}
 use Rattle.lb_cat.specs.Catalog.{Cat, Table}
-use Rattle.lb_rows.specs.KeyValues.{is_null, is_true as is_true_of, are_keys, value_at, keys_differ}
+use Rattle.lb_base.specs.Conditions.{is_null}
+use Rattle.lb_rows.specs.KeyValues.{is_true as is_true_of, are_keys, value_at, keys_differ}
 use Rattle.lb_answer.specs.Keys.{is_one_key, is_doubled, has_double}
 use Rattle.lb_alter.specs.Columns.{HasKeyColumn, not_null_in}
 use Rattle.lb_alter.specs.Fits.{FitsColumn, FitsTable}

@@ -9,15 +9,15 @@ use Rattle.lb_base.specs.declared.value.Value.{Value}
 use Rattle.lb_base.specs.declared.value.Value.TheVariants as values
 use Rattle.lb_cat.specs.declared.catalog.ColumnRec.{ColumnRec}
 use Rattle.lb_cat.specs.declared.refusal.Refusal.{Refusal}
-use Rattle.lb_cat.specs.Catalog.{Cat, Table, Policy, policy_named}
-use Rattle.lb_rows.specs.KeyValues.{is_null}
+use Rattle.lb_cat.specs.Catalog.{Cat, Table, Policy, policy_named, IsLabelOf}
+use Rattle.lb_base.specs.Conditions.{is_null}
 use Rattle.lb_mean.specs.Refused.{policy_of_table}
 use Rattle.lb_answer.specs.Basis.{Basis}
 use Rattle.lb_answer.specs.Checks.{made, begun, written, value_fits, values_fit, row_fits, old_writable, labelled, labelled_at, label_place, label_at, stored_label, masks_show_own, is_allowed}
 use Rattle.lb_answer.specs.OrRefused.{Passed, or_refused}
 use Rattle.lb_cat.specs.OrRefused.{OrRefused, ◌>>=◌}
 use Rattle.lb_alter.specs.ChangeTable.{is_label_type, is_label_column}
-use Rattle.lb_alter.specs.Fits.{IsLabelOf, HasType, FitsColumn, FitsTable}
+use Rattle.lb_alter.specs.Fits.{HasType, FitsColumn, FitsTable}
 use Rattle.lb_alter.specs.Labelled.{IsOfPolicy, ColumnBelongs}
 use Rattle.lb_alter.proofs.SoundKinds.{not_more}
 use Rattle.lb_kinds.specs.HasKind.{HasKind, IfResult}

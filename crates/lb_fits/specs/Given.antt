@@ -4,10 +4,10 @@ use Rattle.lb_base.specs.declared.value.Value.{Value}
 use Rattle.lb_base.specs.declared.value.Value.TheVariants as values
 use Rattle.lb_base.specs.Evaluated.{Evaluated}
 use Rattle.lb_cat.specs.declared.catalog.ColumnRec.{ColumnRec}
-use Rattle.lb_cat.specs.Catalog.{Cat, Table, Policy, policy_named}
+use Rattle.lb_cat.specs.Catalog.{Cat, Table, Policy, policy_named, IsLabelOf}
 use Rattle.lb_alter.specs.ChangeTable.{is_label_column}
 use Rattle.lb_alter.specs.Columns.{HasKeyColumn}
-use Rattle.lb_alter.specs.Fits.{IsLabelOf, FitsTable}
+use Rattle.lb_alter.specs.Fits.{FitsTable}
 use Rattle.lb_alter.specs.Labelled.{LabelsBelong}
 use Rattle.lb_kinds.specs.HasKind.{HasKind, IfResult}
 use Rattle.lb_names.specs.Kinds.{kind_of}

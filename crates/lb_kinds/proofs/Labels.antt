@@ -9,11 +9,11 @@ use Rattle.lb_label.specs.Label.{IsLabel, parts_of}
 use Rattle.lb_label.specs.LabelText.{named_in, is_named, elements_named, failing_in, in_front, unless_fails, read_parts, read_label}
 use Rattle.lb_label.proofs.Parts.{part_fits}
 use Rattle.lb_cat.specs.declared.catalog.LabelRec.{LabelRec}
-use Rattle.lb_cat.specs.Catalog.{Policy, is_label}
+use Rattle.lb_cat.specs.Catalog.{Policy, is_label, IsLabelOf}
 use Rattle.lb_names.specs.Sights.{Name}
 use Rattle.lb_names.specs.Kinds.{label}
 use Rattle.lb_mean.specs.Labels.{label_or_null, label_of_text, label_in, label_by_name}
-use Rattle.lb_kinds.specs.HasKind.{Policies, HasKind, IsLabelOf}
+use Rattle.lb_kinds.specs.HasKind.{Policies, HasKind}
 use Rattle.lb_kinds.specs.Agreement.{LabelsFit}
 use Rattle.lb_kinds.proofs.Results.{same_ok, no_err}
 

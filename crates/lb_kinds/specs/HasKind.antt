@@ -1,22 +1,16 @@
 -- Which values are of which kind.
-use Rattle.std.specs.Prelude.{ℕ, List, Option, Some, None, Ok, Err}
+use Rattle.std.specs.Prelude.{ℕ, List, Option, Ok, Err}
 use Rattle.std.specs.List.{AllZip}
 use Rattle.lb_base.specs.declared.value.Value.{Value}
 use Rattle.lb_base.specs.declared.value.Value.TheVariants as values
 use Rattle.lb_base.specs.Days.{IsDay}
 use Rattle.lb_base.specs.Evaluated.{Evaluated}
-use Rattle.lb_label.specs.Label.{IsLabel}
-use Rattle.lb_cat.specs.Catalog.{Policy}
+use Rattle.lb_cat.specs.Catalog.{Policy, IsLabelOf}
 use Rattle.lb_names.specs.Kinds.{Kind, integer, text, date, label}
 
 -- policies by their names
 abbrev pub Policies : Type 0
 Policies = List ℕ → Option Policy
-
--- the parts are a label of the policy, which is there
-abbrev pub IsLabelOf : Option Policy → List ℕ → Type 0
-IsLabelOf None parts = ⊥
-IsLabelOf (Some p) parts = IsLabel p.shape parts
 
 -- A value of the kind: null is one of every kind, and the only one of a NULL literal's; a day is one of the calendar, and a
 -- label one of the policy that the kind names.

@@ -7,7 +7,6 @@ use Rattle.lb_base.specs.declared.fault.Fault.TheVariants.{ManyRows}
 use Rattle.lb_base.specs.declared.value.Value.{Value}
 use Rattle.lb_base.specs.declared.value.Value.TheVariants as values
 use Rattle.lb_base.specs.declared.truth.Truth.{Truth}
-use Rattle.lb_base.specs.declared.truth.Truth.TheVariants.{True, False}
 use Rattle.lb_base.specs.Evaluated.{Evaluated, ◌>>=◌, each}
 use Rattle.lb_base.specs.Truths.{not_of}
 use Rattle.lb_tree.specs.declared.query.Comparison.{Comparison}

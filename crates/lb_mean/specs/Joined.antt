@@ -1,7 +1,7 @@
 -- FROM: nested loops over what is seen of the tables. A condition of ON has neither arithmetic nor a subquery, so in a statement whose types
 -- are right it never faults. Where it would, the fault stands in the place of the rows that it would have given: so the joined rows can be
 -- gone through one at a time.
-use Rattle.std.specs.Prelude.{ℕ, if◌then◌else◌, List, [], ◌∷◌, ◌++◌, map, unwrap_or, fold, Ok, Err}
+use Rattle.std.specs.Prelude.{ℕ, if◌then◌else◌, List, [], ◌∷◌, ◌++◌, map, fold, Ok, Err}
 use Rattle.std.specs.List.{flat_map}
 use Rattle.lb_base.specs.declared.truth.Truth.{Truth}
 use Rattle.lb_base.specs.declared.value.Value.{Value}

@@ -20,7 +20,7 @@ use Rattle.lb_tree.specs.declared.query.Select.{Select}
 use Rattle.lb_tree.specs.Folds.{Written}
 use Rattle.lb_mean.specs.Setting.{Setting, Env, Frame}
 use Rattle.lb_mean.specs.Meant.{Means, Shows, Answers}
-use Rattle.lb_mean.specs.Sure.{if_any}
+use Rattle.lb_names.specs.Sure.{if_any}
 use Rattle.lb_mean.specs.Conditions.{outputs}
 use Rattle.lb_mean.specs.Meaning.{means, answers}
 

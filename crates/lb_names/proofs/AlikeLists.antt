@@ -12,7 +12,8 @@ use Rattle.lb_names.specs.Typed.{next, ◌>>=◌, only_if}
 use Rattle.lb_names.specs.Places.{Place, on_place, is_free, all_free}
 use Rattle.lb_names.specs.Carriers.{Means, Says, Wanted, Shows, Joins, Chains, Arms, Choices, Role, Answers}
 use Rattle.lb_names.specs.Parts.{kind_of_all, kind_of_any, kind_of_arm, kind_of_arms, and_kind, kinds_of_choice, kinds_of_choices, all_typed}
-use Rattle.lb_names.specs.Expressions.{kind_found, is_total, is_sure, if_any, unless_any}
+use Rattle.lb_names.specs.Expressions.{kind_found, is_total, is_sure}
+use Rattle.lb_names.specs.Sure.{if_any, unless_any}
 use Rattle.lb_names.specs.SelectLists.{column_kinds, fit, star_outputs, called, widths, rest_of, outputs_of, joins_typed, chains_typed}
 use Rattle.lb_names.specs.Typing.{maybe_typed, no_label, group_typed}
 use Rattle.lb_names.proofs.NamesFrame.{resolve_same}

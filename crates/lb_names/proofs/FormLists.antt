@@ -8,7 +8,8 @@ use Rattle.lb_names.specs.Typed.{◌>>=◌}
 use Rattle.lb_names.specs.Places.{Place}
 use Rattle.lb_names.specs.Carriers.{Chains, Means, Says, Wanted, Shows, Joins, Arms, Choices, Role, Answers}
 use Rattle.lb_names.specs.Parts.{kind_of_all, kind_of_any, kind_of_arm, kind_of_arms, and_kind, kinds_of_choice, kinds_of_choices, all_typed}
-use Rattle.lb_names.specs.Expressions.{is_total, is_sure, if_any, unless_any}
+use Rattle.lb_names.specs.Expressions.{is_total, is_sure}
+use Rattle.lb_names.specs.Sure.{if_any, unless_any}
 use Rattle.lb_names.specs.SelectLists.{joins_typed, widths, rest_of, outputs_of}
 use Rattle.lb_names.specs.Typing.{maybe_typed}
 

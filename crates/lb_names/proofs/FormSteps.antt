@@ -17,7 +17,8 @@ use Rattle.lb_names.specs.Typed.{next, ◌>>=◌, only_if, one_of}
 use Rattle.lb_names.specs.Places.{Place, in_aggregate}
 use Rattle.lb_names.specs.Carriers.{Means, Says, Arms, Choices, Answers, subquery}
 use Rattle.lb_names.specs.Parts.{kind_of_two, kind_of_three, kind_with_all, kind_of_results, kinds_of_match}
-use Rattle.lb_names.specs.Expressions.{one_kind, plain_kind, is_label_of, counts_rows, atom_kind, case_kind, plain_results, match_kind_of, number_kind, substr_kind, substr_kind_of, function_kind, apply_kind, expr_step}
+use Rattle.lb_names.specs.Expressions.{one_kind, plain_kind, is_label_of, atom_kind, case_kind, plain_results, match_kind_of, number_kind, substr_kind, substr_kind_of, function_kind, apply_kind, expr_step}
+use Rattle.lb_names.specs.Sure.{counts_rows}
 use Rattle.lb_names.specs.Conditions.{of_plain, compared, first_kind, compare_typed, in_list_typed, between_typed, cond_step}
 use Rattle.lb_names.specs.SelectLists.{fit, called, item_step, join_step}
 use Rattle.lb_names.proofs.Apart.{AllApart}

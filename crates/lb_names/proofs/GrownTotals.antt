@@ -3,7 +3,8 @@ use Rattle.std.proofs.Common.{◌≡◌, refl, [], ◌∷◌, List, ◌&&◌, �
 use Rattle.std.specs.List.{list_any, list_all}
 use Rattle.lb_names.specs.Scopes.{is_some}
 use Rattle.lb_names.specs.Carriers.{Means, Says, Shows, Arms, Choices}
-use Rattle.lb_names.specs.Expressions.{is_total, is_sure, if_any, unless_any}
+use Rattle.lb_names.specs.Expressions.{is_total, is_sure}
+use Rattle.lb_names.specs.Sure.{if_any, unless_any}
 use Rattle.lb_names.proofs.GrownLists.{Alls, Maybe, KeepMeans, KeepSays, KeepArms, KeepChoices, KeepShows}
 
 pub show_totals : (ms ns : List Shows) → Alls KeepShows ms ns → list_any (λ c. c.total) ms ≡ list_any (λ c. c.total) ns

@@ -1,6 +1,5 @@
 -- The types of conditions.
-use Rattle.std.specs.Prelude.{ℕ, Bool, true, false, ◌&&◌, ◌||◌, List, [], ◌∷◌, Ok}
-use Rattle.std.specs.List.{list_any, list_all}
+use Rattle.std.specs.Prelude.{ℕ, true, false, List, [], ◌∷◌, Ok}
 use Rattle.lb_tree.specs.declared.query.Comparison.{Comparison}
 use Rattle.lb_tree.specs.declared.query.Cond.TheOpen as layers
 use Rattle.lb_tree.specs.Folds.{Layer}
@@ -10,7 +9,8 @@ use Rattle.lb_names.specs.Typed.{Typed, next, ◌>>=◌, only_if}
 use Rattle.lb_names.specs.Places.{Place}
 use Rattle.lb_names.specs.Carriers.{Means, Says, Answers, typing, typing_marks, subquery}
 use Rattle.lb_names.specs.Parts.{kind_of_two, kind_of_three, kind_with_all, all_typed}
-use Rattle.lb_names.specs.Expressions.{is_total, is_sure}
+use Rattle.lb_names.specs.Sure.{cond_totals, cond_sures}
+use Rattle.lb_names.specs.Expressions.{totals, sures}
 
 -- the parts of that node have one kind in common, an integer, a text or a date
 abbrev pub of_plain : ℕ → Common × ℕ → Typed (Unit {0})
@@ -58,32 +58,6 @@ cond_typed (layers.Cond-F.InQuery m q) P at = kind_with_query m q P (next at) >>
 cond_typed (layers.Cond-F.InList m ms) P at = in_list_typed m ms P at
 cond_typed (layers.Cond-F.Between m low high) P at = between_typed m low high P at
 
--- an aggregate of its own query is in it
-abbrev pub cond_total : Layer typing layers.Cond-F → Bool
-cond_total (layers.Cond-F.Or cs) = list_any (λ c. c.total) cs
-cond_total (layers.Cond-F.And cs) = list_any (λ c. c.total) cs
-cond_total (layers.Cond-F.Not c) = c.total
-cond_total (layers.Cond-F.Exists q) = false
-cond_total (layers.Cond-F.Compare by m n) = m.total || n.total
-cond_total (layers.Cond-F.CompareQuery by m q) = m.total
-cond_total (layers.Cond-F.IsNull m) = m.total
-cond_total (layers.Cond-F.InQuery m q) = m.total
-cond_total (layers.Cond-F.InList m ms) = m.total || list_any is_total ms
-cond_total (layers.Cond-F.Between m low high) = m.total || (low.total || high.total)
-
--- no `+ - *` and no subquery is in it
-abbrev pub cond_sure : Layer typing layers.Cond-F → Bool
-cond_sure (layers.Cond-F.Or cs) = list_all (λ c. c.sure) cs
-cond_sure (layers.Cond-F.And cs) = list_all (λ c. c.sure) cs
-cond_sure (layers.Cond-F.Not c) = c.sure
-cond_sure (layers.Cond-F.Exists q) = false
-cond_sure (layers.Cond-F.Compare by m n) = m.sure && n.sure
-cond_sure (layers.Cond-F.CompareQuery by m q) = false
-cond_sure (layers.Cond-F.IsNull m) = m.sure
-cond_sure (layers.Cond-F.InQuery m q) = false
-cond_sure (layers.Cond-F.InList m ms) = m.sure && list_all is_sure ms
-cond_sure (layers.Cond-F.Between m low high) = m.sure && (low.sure && high.sure)
-
 -- a condition, by its parts
 abbrev pub cond_step : Layer typing layers.Cond-F → Says
-cond_step x = record { marks = marks_in_cond typing typing_marks x; typed = cond_typed x; total = cond_total x; sure = cond_sure x }
+cond_step x = record { marks = marks_in_cond typing typing_marks x; typed = cond_typed x; total = cond_totals totals x; sure = cond_sures sures x }

@@ -1,5 +1,5 @@
 -- Statements, permissions and masks whose names or types are refused, or not, written out as trees.
-use Rattle.std.specs.Prelude.{true, false, List, [], ◌∷◌, Some, None}
+use Rattle.std.specs.Prelude.{true, [], ◌∷◌, Some, None}
 use Rattle.lb_tree.specs.declared.query.Aggregate.TheVariants as aggregates
 use Rattle.lb_tree.specs.declared.query.Function.TheVariants as functions
 use Rattle.lb_tree.specs.declared.query.Atom.TheVariants as atoms
@@ -14,7 +14,6 @@ use Rattle.lb_tree.specs.declared.query.Select.{Select}
 use Rattle.lb_stmt.specs.declared.write.Stmt.{Stmt}
 use Rattle.lb_stmt.specs.declared.write.Stmt.TheVariants as stmts
 use Rattle.lb_stmt.specs.declared.write.InsertSource.TheVariants as sources
-use Rattle.lb_names.specs.Sights.{Name}
 use Rattle.lb_names.specs.Small.{a, b, c, d, k, l, p, q, t, u, w, x, col, of, int, one, word, plus, equals, sum_of, one_where, table, alias, chain, from, show, column, column_of, grouped, query, key, ordered, select, insert, set}
 
 -- ---- names

@@ -1,6 +1,5 @@
 -- The kinds of expressions.
-use Rattle.std.specs.Prelude.{ℕ, Bool, true, false, ◌&&◌, ◌||◌, if◌then◌else◌, List, Option, Some, None, Ok, Err}
-use Rattle.std.specs.List.{list_any, list_all}
+use Rattle.std.specs.Prelude.{ℕ, Bool, false, ◌&&◌, ◌||◌, if◌then◌else◌, List, Option, Ok, Err}
 use Rattle.std.specs.Str.{bytes_eq}
 use Rattle.lb_tree.specs.declared.query.Aggregate.{Aggregate}
 use Rattle.lb_tree.specs.declared.query.Function.{Function}
@@ -16,6 +15,7 @@ use Rattle.lb_names.specs.Passes.{all_own}
 use Rattle.lb_names.specs.Typed.{Typed, next, ◌>>=◌, only_if, one_of}
 use Rattle.lb_names.specs.Places.{Place, in_aggregate, is_free}
 use Rattle.lb_names.specs.Carriers.{Means, Arms, Choices, typing, typing_marks}
+use Rattle.lb_names.specs.Sure.{PartTests, expr_totals, expr_sures}
 use Rattle.lb_names.specs.Parts.{kind_of_all, kind_with, kind_of_any, kind_of_results, kinds_of_match}
 
 -- the node of that number has the kind that its parts have in common
@@ -53,11 +53,6 @@ atom_kind C (atoms.VerifyGroup groups) P at = Ok (integer, next at)
 atom_kind C (atoms.SecLabel p t) P at = Ok (label p, next at)
 atom_kind C (atoms.SecLabelByName p l) P at = Ok (label p, next at)
 atom_kind C (atoms.SecLabelToChar p c) P at = kind_found P (next at) (resolve C P.sight.seen c) >>= λ x. only_if (is_label_of p x.0) at (text, x.1)
-
--- it is COUNT(*)
-abbrev pub counts_rows : Atom → Bool
-counts_rows atoms.CountRows = true
-counts_rows _ = false
 
 -- ---- nodes with parts
 
@@ -124,16 +119,6 @@ expr_kind C (layers.Expr-F.Coalesce ms) P at = kind_of_all (one null) ms P (next
 
 -- ---- aggregates and arithmetic
 
--- a part that may be missing is there and passes the test
-abbrev pub if_any : {A : Type 0} → (A → Bool) → Option A → Bool
-if_any test None = false
-if_any test (Some x) = test x
-
--- a part that may be missing is missing or passes the test
-abbrev pub unless_any : {A : Type 0} → (A → Bool) → Option A → Bool
-unless_any test None = true
-unless_any test (Some x) = test x
-
 -- it has an aggregate of its own query
 abbrev pub is_total : Means → Bool
 is_total m = m.total
@@ -142,35 +127,21 @@ is_total m = m.total
 abbrev pub is_sure : Means → Bool
 is_sure m = m.sure
 
--- an aggregate of its own query is in it
-abbrev pub expr_total : Layer typing layers.Expr-F → Bool
-expr_total (layers.Expr-F.Atom a) = counts_rows a
-expr_total (layers.Expr-F.Sum ms) = list_any is_total ms
-expr_total (layers.Expr-F.Concat ms) = list_any is_total ms
-expr_total (layers.Expr-F.Product ms) = list_any is_total ms
-expr_total (layers.Expr-F.Case arms otherwise) = list_any (λ arm. arm.when.total || arm.result.total) arms || if_any is_total otherwise
-expr_total (layers.Expr-F.Match m choices otherwise) = m.total || (list_any (λ c. c.when.total || c.result.total) choices || if_any is_total otherwise)
-expr_total (layers.Expr-F.Aggregate op m) = true
-expr_total (layers.Expr-F.Substr m from n) = m.total || (from.total || if_any is_total n)
-expr_total (layers.Expr-F.Apply f m) = m.total
-expr_total (layers.Expr-F.Coalesce ms) = list_any is_total ms
+-- which parts have an aggregate of their query
+abbrev pub totals : PartTests typing
+totals = record { cond = λ c. c.total; expr = is_total; arm = λ x. x.when.total || x.result.total; choice = λ x. x.when.total || x.result.total; signed = is_total }
 
--- no `+ - *` and no subquery is in it
-abbrev pub expr_sure : Layer typing layers.Expr-F → Bool
-expr_sure (layers.Expr-F.Atom a) = true
-expr_sure (layers.Expr-F.Sum ms) = false
-expr_sure (layers.Expr-F.Concat ms) = list_all is_sure ms
-expr_sure (layers.Expr-F.Product ms) = false
-expr_sure (layers.Expr-F.Case arms otherwise) = list_all (λ arm. arm.when.sure && arm.result.sure) arms && unless_any is_sure otherwise
-expr_sure (layers.Expr-F.Match m choices otherwise) = m.sure && (list_all (λ c. c.when.sure && c.result.sure) choices && unless_any is_sure otherwise)
-expr_sure (layers.Expr-F.Aggregate op m) = m.sure
-expr_sure (layers.Expr-F.Substr m from n) = m.sure && (from.sure && unless_any is_sure n)
-expr_sure (layers.Expr-F.Apply f m) = m.sure
-expr_sure (layers.Expr-F.Coalesce ms) = list_all is_sure ms
+-- which parts are sure
+abbrev pub sures : PartTests typing
+sures = record { cond = λ c. c.sure; expr = is_sure; arm = λ x. x.when.sure && x.result.sure; choice = λ x. x.when.sure && x.result.sure; signed = is_sure }
+
+-- no aggregate is arithmetic here: in ON, where this is asked, none may stand
+abbrev pub no_aggregate : Aggregate → Bool
+no_aggregate op = false
 
 -- an expression, by its parts
 abbrev pub expr_step : Catalogue → Layer typing layers.Expr-F → Means
-expr_step C x = record { marks = marks_in_expr typing typing_marks x; kind = expr_kind C x; total = expr_total x; sure = expr_sure x }
+expr_step C x = record { marks = marks_in_expr typing typing_marks x; kind = expr_kind C x; total = expr_totals totals x; sure = expr_sures sures no_aggregate x }
 
 -- an arm of CASE, by its parts
 abbrev pub arm_step : Layer typing layers.Arm-F → Arms

@@ -7,6 +7,7 @@ pub mod Kinds
 pub mod Scopes
 pub mod Passes
 pub mod Typed
+pub mod Sure
 pub mod Places
 pub mod Carriers
 pub mod Parts

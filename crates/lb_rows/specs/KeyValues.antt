@@ -6,11 +6,7 @@ use Rattle.lb_base.specs.declared.value.Value.TheVariants as values
 use Rattle.lb_base.specs.declared.truth.Truth.{Truth}
 use Rattle.lb_base.specs.declared.truth.Truth.TheVariants as truths
 use Rattle.lb_base.specs.Compare.{equal_of}
-
--- the value is null
-abbrev pub is_null : Value → Bool
-is_null values.Null = true
-is_null _ = false
+use Rattle.lb_base.specs.Conditions.{is_null}
 
 -- the condition is true
 abbrev pub is_true : Truth → Bool

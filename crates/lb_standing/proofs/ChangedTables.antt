@@ -102,7 +102,7 @@ module _ (C : Cat) (T : Tables) (f : Kept C.tables T) (user : List ℕ) where
       test_kept (secadm C user) _ (λ _. found_kept d.on.table (table_named C d.on.table) _ (λ t e. test_kept (when (list_any (takes_permission_name d) C.tables) (refusals.Exists d.name)) _
       (λ _. test_kept (stored_rules.condition_names C d.on d.condition) _ (λ _. test_kept (source_refusal C d.name t.name (in_cond d.condition)) _ (λ _. test_kept (stored_rules.condition_types C d.on d.condition) _
       (λ _. alters_kept C T f (with_permission (new_permission stored_rules C d) t)
-          (all_put PermissionHasDays (is_permission d.name) (new_permission stored_rules C d) t.permissions (named d.on.table t e).0 (subst AreDays (sym (condition_days (named_in C) d.on d.condition)) days), (named d.on.table t e).1)))))))
+      (all_put PermissionHasDays (is_permission d.name) (new_permission stored_rules C d) t.permissions (named d.on.table t e).0 (subst AreDays (sym (condition_days (named_in C) d.on d.condition)) days), (named d.on.table t e).1)))))))
 
   pub create_mask_kept : (d : MaskDef) → AreDays (days_in d.value) → LeavesKept (create_mask stored_rules C T user d)
   create_mask_kept d days =
@@ -110,7 +110,7 @@ module _ (C : Cat) (T : Tables) (f : Kept C.tables T) (user : List ℕ) where
       (λ column _. test_kept (when (list_any (takes_mask_name d column) C.tables) (refusals.Exists d.name)) _ (λ _. test_kept (exists_already (other_mask d.name column t)) _
       (λ _. test_kept (stored_rules.mask_names C d.on d.value) _ (λ _. test_kept (source_refusal C d.name t.name (in_expr d.value)) _ (λ _. test_kept (stored_rules.mask_types C d.on d.column d.value) _
       (λ _. alters_kept C T f (with_mask (new_mask stored_rules C column d) t)
-          ((named d.on.table t e).0, all_put MaskHasDays (is_mask d.name) (new_mask stored_rules C column d) t.masks (named d.on.table t e).1 (subst AreDays (sym (mask_days (named_in C) d.on d.value)) days))))))))))
+      ((named d.on.table t e).0, all_put MaskHasDays (is_mask d.name) (new_mask stored_rules C column d) t.masks (named d.on.table t e).1 (subst AreDays (sym (mask_days (named_in C) d.on d.value)) days))))))))))
 
   pub switch_permission_kept : (n : List ℕ) (w : Switch) → LeavesKept (switch_permission C T user n w)
   switch_permission_kept n w =

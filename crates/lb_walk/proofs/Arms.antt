@@ -7,7 +7,8 @@ use Rattle.lb_tree.specs.declared.query.Choice.{Choice}
 use Rattle.lb_tree.specs.declared.query.Expr.TheVariants as exprs
 use Rattle.lb_names.specs.Scopes.{Catalogue}
 use Rattle.lb_names.specs.Carriers.{Means, Choices}
-use Rattle.lb_names.specs.Expressions.{if_any, unless_any, is_total, is_sure}
+use Rattle.lb_names.specs.Expressions.{is_total, is_sure}
+use Rattle.lb_names.specs.Sure.{if_any, unless_any}
 use Rattle.lb_names.specs.Typing.{means}
 use Rattle.lb_walk.specs.Opened.{choice_of}
 use Rattle.lb_walk.proofs.Opens.{means_match, means_substr}

@@ -3,7 +3,8 @@ ghost use Rattle.std.specs.Prelude.{◌≡◌, ◌||◌, map};
 ghost use Rattle.std.specs.Option.{option_map};
 ghost use Rattle.std.specs.List.{list_any};
 ghost use Rattle.lb_names.specs.Scopes.{Catalogue};
-ghost use Rattle.lb_names.specs.Expressions.{if_any, is_total};
+ghost use Rattle.lb_names.specs.Expressions.{is_total};
+ghost use Rattle.lb_names.specs.Sure.{if_any};
 ghost use Rattle.lb_names.specs.Typing.{means, says};
 ghost use Rattle.lb_walk.specs.Opened.{arm_of, choice_of, part_of};
 

@@ -1,0 +1,5 @@
+mod Arms
+mod Nodes
+mod Rules
+mod Stopping
+mod Whole
