@@ -10,8 +10,6 @@ use Rattle.lb_tree.specs.declared.query.Chain.{Chain}
 use Rattle.lb_tree.specs.declared.query.Choice.{Choice}
 use Rattle.lb_tree.specs.declared.query.Query.{Query}
 use Rattle.lb_tree.specs.declared.query.Signed.{Signed}
-use Rattle.lb_tree.specs.declared.query.Atom.{Atom}
-use Rattle.lb_tree.specs.declared.query.Atom.TheVariants as atoms
 use Rattle.lb_tree.specs.declared.query.Cond.TheOpen as layers
 use Rattle.lb_tree.specs.declared.query.Cond.TheViews.{roll-Cond, roll-Expr, roll-Item, roll-Arm, roll-Choice, roll-Signed}
 use Rattle.lb_tree.specs.declared.query.Cond.TheFolds.{map-Cond, map-Expr, map-Item, map-Arm, map-Choice, map-Signed, ind-Expr, ind-Item}
@@ -29,21 +27,6 @@ use Rattle.lb_mean.specs.Meaning.{steps}
 same_any : {A B X : Type 0} (f : A → Bool) (g : B → Bool) (n : X → A) (v : X → B) (xs : List ((x : X) × (f (n x) ≡ g (v x)))) → list_any f (map n (map (λ x. x.0) xs)) ≡ list_any g (map v (map (λ x. x.0) xs))
 same_any f g n v [] = refl
 same_any f g n v (x ∷ xs) = λ i. x.1 i || same_any f g n v xs i
-
-same_counts : (a : Atom) → expressions.counts_rows a ≡ sure.counts_rows a
-same_counts atoms.Null = refl
-same_counts (atoms.Int n) = refl
-same_counts (atoms.Text t) = refl
-same_counts (atoms.Date d) = refl
-same_counts atoms.CurrentDate = refl
-same_counts atoms.SessionUser = refl
-same_counts (atoms.Column c) = refl
-same_counts atoms.CountRows = refl
-same_counts (atoms.VerifyRole roles) = refl
-same_counts (atoms.VerifyGroup groups) = refl
-same_counts (atoms.SecLabel p t) = refl
-same_counts (atoms.SecLabelByName p l) = refl
-same_counts (atoms.SecLabelToChar p c) = refl
 
 module _ (C : Catalogue) (S : Setting) where
   abbrev NCond : Cond → typed.Says
@@ -165,7 +148,7 @@ module _ (C : Catalogue) (S : Setting) where
   down_signed = map-Signed (With GCond) (With GExpr) (With GItem) (With (Any {X = Join})) (With GArm) (With (Any {X = Chain})) (With GChoice) (With (Any {X = Query})) (With GSigned) Cond Expr Item Join Arm Chain Choice Query Signed (λ x. x.0) (λ x. x.0) (λ x. x.0) (λ x. x.0) (λ x. x.0) (λ x. x.0) (λ x. x.0) (λ x. x.0) (λ x. x.0)
 
   expr_good : (y : Goods layers.Expr-F) → GExpr (roll-Expr (down_expr y))
-  expr_good (layers.Expr-F.Atom x) = by_expr (layers.Expr-F.Atom x) (same_counts x)
+  expr_good (layers.Expr-F.Atom x) = by_expr (layers.Expr-F.Atom x) refl
   expr_good (layers.Expr-F.Sum parts) = by_expr (layers.Expr-F.Sum (map (λ x. x.0) parts)) (λ i. same_any expressions.is_total (λ m. m.part.total) NSigned VSigned parts i)
   expr_good (layers.Expr-F.Concat parts) = by_expr (layers.Expr-F.Concat (map (λ x. x.0) parts)) (λ i. same_any expressions.is_total sure.is_total NExpr VExpr parts i)
   expr_good (layers.Expr-F.Product parts) = by_expr (layers.Expr-F.Product (map (λ x. x.0) parts)) (λ i. same_any expressions.is_total sure.is_total NExpr VExpr parts i)

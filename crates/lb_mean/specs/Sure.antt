@@ -5,7 +5,11 @@ use Rattle.lb_tree.specs.declared.query.Aggregate.TheVariants as aggregates
 use Rattle.lb_tree.specs.declared.query.Cond.TheOpen as layers
 use Rattle.lb_tree.specs.Folds.{Layer}
 use Rattle.lb_names.specs.Sure.{PartTests, expr_totals, expr_sures, cond_totals, cond_sures}
-use Rattle.lb_mean.specs.Meant.{meaning}
+use Rattle.lb_mean.specs.Meant.{Means, meaning}
+
+-- the expression has an aggregate
+abbrev pub is_total : Means → Bool
+is_total m = m.total
 
 -- which parts are sure
 abbrev pub sures : PartTests meaning
@@ -13,7 +17,7 @@ sures = record { cond = λ c. c.sure; expr = λ m. m.sure; arm = λ x. x.when.su
 
 -- which parts have an aggregate
 abbrev pub totals : PartTests meaning
-totals = record { cond = λ c. c.total; expr = λ m. m.total; arm = λ x. x.when.total || x.result.total; choice = λ x. x.when.total || x.result.total; signed = λ m. m.part.total }
+totals = record { cond = λ c. c.total; expr = is_total; arm = λ x. x.when.total || x.result.total; choice = λ x. x.when.total || x.result.total; signed = λ m. m.part.total }
 
 -- SUM adds, and is arithmetic like `+ - *`
 abbrev pub adds : Aggregate → Bool
