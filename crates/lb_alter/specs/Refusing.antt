@@ -20,8 +20,8 @@ pub record Changed : Type 0 where
   pub touched : List Key
   pub reply : Reply
 
--- a test: it refuses, or what comes after it decides
 infixl 10 ◌>>◌
+-- a test: it refuses, or what comes after it decides
 abbrev pub ◌>>◌ : {A : Type 0} → Option Refusal → OrRefused A → OrRefused A
 None >> rest = rest
 Some r >> rest = Err r

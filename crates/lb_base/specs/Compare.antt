@@ -38,9 +38,11 @@ is_same a b = is_eq (order_of a b)
 abbrev pub OrderIsTotal : Type 0
 OrderIsTotal = IsTotalOrder order_of
 
+-- so it is one that a sort accepts
 abbrev pub OrderIsSortable : Type 0
 OrderIsSortable = IsStrictWeakOrder stands_before
 
+-- true or false, and not unknown
 abbrev pub truth_of : Bool → Truth
 truth_of true = truths.True
 truth_of false = truths.False

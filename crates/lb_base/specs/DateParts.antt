@@ -26,10 +26,12 @@ abbrev pub year_value : Value → Value
 year_value (Date d) = Int (pos (year_of d))
 year_value _ = Null
 
+-- MONTH of a value
 abbrev pub month_value : Value → Value
 month_value (Date d) = Int (pos (month_of d))
 month_value _ = Null
 
+-- DAY of a value
 abbrev pub day_value : Value → Value
 day_value (Date d) = Int (day_in_month d)
 day_value _ = Null

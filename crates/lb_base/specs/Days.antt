@@ -19,6 +19,7 @@ is_written_day text =
 abbrev pub two_digits : List ℕ → ℕ → ℕ
 two_digits text at = (slice_index text at - 48) * 10 + (slice_index text (at + 1) - 48)
 
+-- the year that a written day begins with
 abbrev pub year_in : List ℕ → ℕ
 year_in text = two_digits text 0 * 100 + two_digits text 2
 

@@ -2,6 +2,7 @@
 use Rattle.std.specs.Prelude.{List, [], ◌∷◌, Bool, true, false, if◌then◌else◌, Result, Ok, Err}
 use Rattle.lb_base.specs.declared.fault.Fault.{Fault}
 
+-- a result or a fault
 abbrev pub Evaluated : Type 0 → Type 0
 Evaluated A = Result A Fault
 

@@ -12,6 +12,7 @@ abbrev pub is_name : List ℕ → Bool
 is_name [] = false
 is_name (b ∷ bs) = is_ascii_alphabetic b && nat_le (length (b ∷ bs)) 64 && list_all is_name_byte (b ∷ bs)
 
+-- the text in upper case
 abbrev pub folded : List ℕ → List ℕ
 folded = map to_ascii_uppercase
 

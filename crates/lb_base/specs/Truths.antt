@@ -3,11 +3,13 @@ use Rattle.std.specs.Prelude.{Bool, true, false}
 use Rattle.lb_base.specs.declared.truth.Truth.{Truth}
 use Rattle.lb_base.specs.declared.truth.Truth.TheVariants.{True, False, Unknown}
 
+-- it is true
 abbrev pub is_true : Truth → Bool
 is_true True = true
 is_true False = false
 is_true Unknown = false
 
+-- it is false
 abbrev pub is_false : Truth → Bool
 is_false True = false
 is_false False = true

@@ -3,6 +3,7 @@ use Rattle.std.specs.Prelude.{ℕ}
 use Rattle.lb_cat.specs.declared.refusal.Refusal.{Refusal}
 use Rattle.lb_cat.specs.declared.refusal.Refusal.TheVariants.{Syntax, Unknown, Exists, Types, Privilege, NotSecadm, ColumnRead, ColumnWrite, RowWrite, LabelWrite, NoWriteLabel, RowPermission, MaskedSource, MaskGroup, DuplicateKey, Overflow, ManyRows, InUse, BadLabel, GrantMismatch, Limit, JournalFull, NullValue, TooWide, BadSource, BadTable, NotYet}
 
+-- the number of a refusal
 abbrev pub refusal_number : Refusal → ℕ
 refusal_number (Syntax at) = 1
 refusal_number (Unknown name) = 2

@@ -28,6 +28,7 @@ TakenValuesFit = (policies : Policies) (ty : Ty) (k : Kind) (v : Value) → take
 
 -- ---- settings
 
+-- the columns of a table, and none where it is not there
 abbrev pub columns_in : Option Table → List ColumnRec
 columns_in None = []
 columns_in (Some t) = t.columns

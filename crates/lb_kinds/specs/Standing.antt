@@ -18,6 +18,7 @@ use Rattle.lb_kinds.specs.Agreement.{CellsFit}
 abbrev pub Scopes : Type 0
 Scopes = List (List Tab)
 
+-- the items in sight, those of the innermost query first
 abbrev pub seen_in : Scopes → List Seen
 seen_in [] = []
 seen_in (tabs ∷ scopes) = items_in (seen_in scopes) tabs ++ seen_in scopes
@@ -40,6 +41,7 @@ pub record IsSight (v : Sight) (scopes : Scopes) : Type 0 where
 
 -- ---- columns that are not asked for
 
+-- the list has nothing in it
 abbrev pub is_empty : {A : Type 0} → List A → Bool
 is_empty [] = true
 is_empty (x ∷ xs) = false

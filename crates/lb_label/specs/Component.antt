@@ -73,6 +73,7 @@ IsPath c from (parent ∷ path) to = (parent_of c from ≡ Some parent) × IsPat
 abbrev pub Descends : Definition → ℕ → ℕ → Type 0
 Descends c a b = (path : List ℕ) × (0 < length path) × IsPath c a path b
 
+-- a parent, and what is above it
 abbrev pub and_above : (ℕ → List ℕ) → Option ℕ → List ℕ
 and_above above None = []
 and_above above (Some parent) = parent ∷ above parent
@@ -100,6 +101,7 @@ IsParent Tree (suc element) (Some parent) = parent < suc element
 IsParent Set element parent = parent ≡ None
 IsParent Array element parent = parent ≡ None
 
+-- what every component keeps
 pub record IsComponent (c : Definition) : Type 0 where
   pub few : length c.elements ≤ limit c.kind
   pub texts : (e : ℕ) → e < length c.elements → is_element_text (slice_index_or c.elements e []) ≡ true

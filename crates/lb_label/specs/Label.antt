@@ -22,6 +22,7 @@ fits_in Array n part = part ≤ n
 fits_in Set n part = part < 2 ^ n
 fits_in Tree n part = part < 2 ^ n
 
+-- it is a part for that component
 abbrev pub IsPart : Definition → ℕ → Type 0
 IsPart c part = fits_in c.kind (length c.elements) part
 

@@ -10,6 +10,7 @@ use Rattle.lb_label.specs.Component.{Definition, numbers, number_of}
 abbrev pub is_colon : ℕ → Bool
 is_colon byte = byte == 58
 
+-- the byte is a comma
 abbrev pub is_comma : ℕ → Bool
 is_comma byte = byte == 44
 
@@ -36,6 +37,7 @@ named_from part = if is_bracketed part then 1 else 0
 
 -- ---- what fails in a part
 
+-- in an ARRAY, another name than the first one
 abbrev pub is_second : ComponentKind → List ℕ → List ℕ → Bool
 is_second Array first name = not (bytes_eq name first)
 is_second Set first name = false
@@ -51,6 +53,7 @@ failing_from c first at [] = None
 failing_from c first at (name ∷ names) =
     if fails c first name then Some at else failing_from c first (at + length name + 1) names
 
+-- the place of the first of these names that fails
 abbrev pub failing_name : Definition → ℕ → List (List ℕ) → Option ℕ
 failing_name c at names = failing_from c (slice_index_or names 0 []) at names
 
@@ -68,10 +71,12 @@ is_named c names element = list_any (λ name. bytes_eq (slice_index_or c.element
 abbrev pub elements_named : Definition → List ℕ → List ℕ
 elements_named c part = filter (is_named c (named_in part)) (numbers (length c.elements))
 
+-- the elements of one component before those of the others
 abbrev pub in_front : List ℕ → Result (List (List ℕ)) ℕ → Result (List (List ℕ)) ℕ
 in_front elements (Ok rest) = Ok (elements ∷ rest)
 in_front elements (Err at) = Err at
 
+-- the place that fails, or else what is read
 abbrev pub unless_fails : Option ℕ → Result (List (List ℕ)) ℕ → Result (List (List ℕ)) ℕ
 unless_fails (Some place) read = Err place
 unless_fails None read = read
@@ -99,6 +104,7 @@ part_text c (e ∷ []) = slice_index_or c.elements e []
 part_text c (e ∷ f ∷ rest) =
     codes "(" ++ join_with_byte 44 (map (λ n. slice_index_or c.elements n []) (e ∷ f ∷ rest)) ++ codes ")"
 
+-- the texts of the components of a label
 abbrev pub part_texts : List Definition → List (List ℕ) → List (List ℕ)
 part_texts [] label = []
 part_texts (c ∷ shape) [] = []

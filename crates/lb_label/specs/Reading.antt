@@ -14,9 +14,11 @@ with_number Array part (Some n) = if (part == 0) || (part == n + 1) then Some (n
 with_number Set part (Some n) = Some (bit_or part (2 ^ n))
 with_number Tree part (Some n) = Some (bit_or part (2 ^ n))
 
+-- the part with the element of that name more, if it may have it
 abbrev pub with_name : Definition → ℕ → List ℕ → Option ℕ
 with_name c part name = with_number c.kind part (number_of c name)
 
+-- goes on with the part, or fails at that place
 abbrev pub or_fails_at : ℕ → (ℕ → Result ℕ ℕ) → Option ℕ → Result ℕ ℕ
 or_fails_at at next None = Err at
 or_fails_at at next (Some part) = next part

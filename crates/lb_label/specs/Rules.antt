@@ -40,6 +40,7 @@ is_below c user value = list_any (λ d. list_any (λ u. is_higher c d u) user) v
 abbrev pub is_above : Definition → List ℕ → List ℕ → Bool
 is_above c user value = list_any (λ d. list_any (λ u. is_higher c u d) user) value
 
+-- the element is among them
 abbrev pub has : List ℕ → ℕ → Bool
 has elements element = list_any (λ other. other == element) elements
 
@@ -87,6 +88,7 @@ blocks rule c (u ∷ user) (d ∷ value) = blocks_elements rule c (u ∷ user) (
 abbrev pub failing_rule : Access → (Rule → Bool) → Definition → List ℕ → List ℕ → Option Rule
 failing_rule access exempt c user value = find (λ rule. not (exempt rule) && blocks rule c user value) (rules_for access c.kind)
 
+-- a rule that blocks fails in that component; without one, what follows decides
 abbrev pub failure_or : ℕ → Option Rule → Option Fail → Option Fail
 failure_or at (Some rule) rest = Some (record { component = at; rule = rule })
 failure_or at None rest = rest
@@ -114,6 +116,7 @@ agrees_in Set c read write = list_all (has read) write
 -- elements that are each one of those for reading, or a descendant of one
 agrees_in Tree c read write = list_all (is_under c read) write
 
+-- what is held for writing agrees with what is held for reading
 abbrev pub agrees : Definition → List ℕ → List ℕ → Bool
 agrees c read write = agrees_in c.kind c read write
 

@@ -5,6 +5,7 @@ use Rattle.std.specs.declared.sync.Arc.{Arc}
 use Rattle.std.specs.declared.alloc.Global.{Global}
 use Rattle.lb_label.specs.Component.{Definition, IsComponent}
 
+-- a place for a component, which may be empty
 abbrev pub Held : Type 0
 Held = Option (Arc Definition Global)
 

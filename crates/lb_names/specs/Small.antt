@@ -29,39 +29,51 @@ use Rattle.lb_names.specs.Scopes.{Field, Catalogue}
 
 -- ---- names of one letter
 
+-- the name A
 abbrev pub a : Name
 a = 65 ∷ []
 
+-- the name B
 abbrev pub b : Name
 b = 66 ∷ []
 
+-- the name C
 abbrev pub c : Name
 c = 67 ∷ []
 
+-- the name D
 abbrev pub d : Name
 d = 68 ∷ []
 
+-- the name K
 abbrev pub k : Name
 k = 75 ∷ []
 
+-- the name L
 abbrev pub l : Name
 l = 76 ∷ []
 
+-- the name P
 abbrev pub p : Name
 p = 80 ∷ []
 
+-- the name Q
 abbrev pub q : Name
 q = 81 ∷ []
 
+-- the name T
 abbrev pub t : Name
 t = 84 ∷ []
 
+-- the name U
 abbrev pub u : Name
 u = 85 ∷ []
 
+-- the name W
 abbrev pub w : Name
 w = 87 ∷ []
 
+-- the name X
 abbrev pub x : Name
 x = 88 ∷ []
 

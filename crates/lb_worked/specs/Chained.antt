@@ -7,6 +7,7 @@ use Rattle.lb_mean.specs.Refused.{tables_used}
 use Rattle.lb_worked.specs.Trees.{col, int, equal, item, tab, from, joined, inner_join, select, asked}
 use Rattle.lb_worked.specs.Tables.{column, plain, with_tables}
 
+-- three tables of one column each
 abbrev pub cat : Cat
 cat = with_tables (plain (codes "A") (column (codes "X") types.Int ∷ []) ∷ plain (codes "B") (column (codes "Y") types.Int ∷ []) ∷ plain (codes "C") (column (codes "X") types.Int ∷ column (codes "Z") types.Int ∷ []) ∷ [])
 

@@ -10,6 +10,7 @@ use Rattle.lb_worked.specs.Permitted.{p1}
 use Rattle.lb_worked.specs.Trees.{int}
 use Rattle.lb_worked.specs.Tables.{guarded_by, number, with_tables, answered}
 
+-- what ANN is answered where the first permission guards the table
 abbrev pub permitted : Stmt → Answered
 permitted s = answered (with_tables (guarded_by (p1 ∷ []) r ∷ [])) numbers (codes "ANN") s
 

@@ -10,6 +10,7 @@ use Rattle.lb_worked.specs.Written.{k, w, one, two, to_k}
 use Rattle.lb_worked.specs.Trees.{atom, col, int, text, plus}
 use Rattle.lb_worked.specs.Tables.{holding, number, greatest, with_tables, answered}
 
+-- two expressions
 abbrev pub pair : Expr → Expr → List Expr
 pair a b = a ∷ b ∷ []
 
@@ -17,9 +18,11 @@ pair a b = a ∷ b ∷ []
 abbrev pub beyond : Expr
 beyond = plus (int greatest) (int 1)
 
+-- a NULL literal
 abbrev pub null : Expr
 null = atom atoms.Null
 
+-- an INSERT of rows into K
 abbrev pub into_k : List (List Expr) → Answered
 into_k rows = to_k (insert_values (codes "K") rows)
 
@@ -47,6 +50,7 @@ NullBeforeKeys = into_k (pair (int 1) (int 1) ∷ pair null (int 1) ∷ []) ≡ 
 abbrev pub DoubledInValues : Type 0
 DoubledInValues = into_k (pair (int 3) (int 1) ∷ pair (int 3) (int 2) ∷ []) ≡ refused (refusals.DuplicateKey (codes "K"))
 
+-- an INSERT of two texts into W
 abbrev pub into_w : List ℕ → List ℕ → Answered
 into_w a b = answered (with_tables (w ∷ [])) (holding w [] ∷ []) (codes "ANN") (insert_values (codes "W") ((text a ∷ []) ∷ (text b ∷ []) ∷ []))
 

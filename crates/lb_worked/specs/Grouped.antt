@@ -18,19 +18,24 @@ use Rattle.lb_worked.specs.Orders.{r, rows as sources}
 use Rattle.lb_worked.specs.Trees.{bare, col, int, aggregate, count_rows, greater, no, item, tab, from, select, select_groups_of, select_having, asked}
 use Rattle.lb_worked.specs.Tables.{column, plain, holding, number, greatest, word, with_tables, answered}
 
+-- a table of texts and numbers
 abbrev pub g : Table
 g = plain (codes "G") (column (codes "K") (types.Text 5) ∷ column (codes "N") types.Int ∷ [])
 
+-- a row of it
 abbrev pub row : Value → Value → List Value
 row k n = k ∷ n ∷ []
 
+-- its rows, among them nulls
 abbrev pub rows : Tables
 rows = holding g (row (word (codes "b")) (number 1) ∷ row values.Null values.Null ∷ row (word (codes "a")) (number 2) ∷ row (word (codes "b")) values.Null
     ∷ row values.Null values.Null ∷ row (word (codes "a")) (number 2) ∷ []) ∷ sources
 
+-- what a query is answered
 abbrev pub reply : Query → Reply
 reply q = (answered (with_tables (g ∷ r ∷ [])) rows (codes "ANN") (stmts.Select (asked q))).reply
 
+-- the sum of the numbers
 abbrev pub sum : Expr
 sum = aggregate aggregates.Sum (col (codes "N"))
 

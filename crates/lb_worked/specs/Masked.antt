@@ -14,9 +14,11 @@ use Rattle.lb_rows.specs.Tables.{Tables}
 use Rattle.lb_worked.specs.Trees.{qualified, of, col, int, text, case, aggregate, count_rows, equal, item, tab, named, from, joined, left_join, select, select_distinct, select_groups, asked, down, ordered}
 use Rattle.lb_worked.specs.Tables.{column, plain, masked_by, mask, holding, number, word, with_tables, answered, given_rows}
 
+-- employees with their salaries
 abbrev pub emp : Table
 emp = plain (codes "EMP") (column (codes "NAME") (types.Text 20) ∷ column (codes "SAL") types.Int ∷ column (codes "BAND") types.Int ∷ column (codes "D") types.Int ∷ [])
 
+-- a table of one column
 abbrev pub ones : Table
 ones = plain (codes "ONE") (column (codes "A") (types.Text 20) ∷ [])
 
@@ -28,6 +30,7 @@ m2 = mask (codes "M2") emp 0 (case (equal (of (codes "EMP") (codes "BAND")) (int
 abbrev pub m3 : MaskRec
 m3 = mask (codes "M3") emp 1 (case (equal (of (codes "EMP") (codes "D")) (int 1)) (of (codes "EMP") (codes "SAL")) (int 0))
 
+-- the catalogue, in which two masks protect the employees
 abbrev pub cat : Cat
 cat = with_tables (masked_by (m2 ∷ m3 ∷ []) emp ∷ ones ∷ [])
 
@@ -36,9 +39,11 @@ abbrev pub rows : Tables
 rows = holding emp ((word (codes "AL") ∷ number 10 ∷ number 1 ∷ number 1 ∷ []) ∷ (word (codes "BO") ∷ number 20 ∷ number 2 ∷ number 1 ∷ []) ∷ (word (codes "CY") ∷ number 30 ∷ number 1 ∷ number 2 ∷ []) ∷ [])
     ∷ holding ones ((word (codes "ZZ") ∷ []) ∷ []) ∷ []
 
+-- what CARL is answered
 abbrev pub reply : Select → Reply
 reply s = (answered cat rows (codes "CARL") (stmts.Select s)).reply
 
+-- the column NAME
 abbrev pub name : Expr
 name = col (codes "NAME")
 

@@ -14,6 +14,7 @@ use Rattle.lb_rows.specs.Tables.{Tables}
 use Rattle.lb_worked.specs.Trees.{atom, bare, of, col, int, text, case, aggregate, count_rows, equal, greater, item, tab, from, select, select_distinct, select_groups, select_having, asked}
 use Rattle.lb_worked.specs.Tables.{column, plain, masked_by, mask, holding, number, word, with_tables, answered}
 
+-- names and salaries
 abbrev pub pay : Table
 pay = plain (codes "PAY") (column (codes "NAME") (types.Text 20) ∷ column (codes "SAL") types.Int ∷ [])
 
@@ -21,6 +22,7 @@ pay = plain (codes "PAY") (column (codes "NAME") (types.Text 20) ∷ column (cod
 abbrev pub ms : MaskRec
 ms = mask (codes "MS") pay 1 (case (equal (atom atoms.SessionUser) (text (codes "ANN"))) (of (codes "PAY") (codes "SAL")) (int 0))
 
+-- the catalogue, in which a mask protects the salaries
 abbrev pub cat : Cat
 cat = with_tables (masked_by (ms ∷ []) pay ∷ [])
 
@@ -28,9 +30,11 @@ cat = with_tables (masked_by (ms ∷ []) pay ∷ [])
 abbrev pub rows : Tables
 rows = holding pay ((word (codes "AL") ∷ number 10 ∷ []) ∷ (word (codes "BO") ∷ number 20 ∷ []) ∷ (word (codes "CY") ∷ number 10 ∷ []) ∷ []) ∷ []
 
+-- what a user is answered
 abbrev pub reply : List ℕ → Query → Reply
 reply user q = (answered cat rows user (stmts.Select (asked q))).reply
 
+-- the column SAL
 abbrev pub sal : Expr
 sal = col (codes "SAL")
 

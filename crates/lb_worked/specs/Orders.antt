@@ -18,24 +18,31 @@ use Rattle.lb_rows.specs.Tables.{Tables}
 use Rattle.lb_worked.specs.Trees.{col, of, int, plus, coalesce, equal, in_list, between, exists, equal_query, item, tab, named, from, joined, left_join, select, select_distinct, asked, up, down, first_of}
 use Rattle.lb_worked.specs.Tables.{column, plain, holding, number, greatest, with_tables, answered, given_rows}
 
+-- a table of two numbers
 abbrev pub r : Table
 r = plain (codes "R") (column (codes "A") types.Int ∷ column (codes "X") types.Int ∷ [])
 
+-- its first row
 abbrev pub one : List Value
 one = number 1 ∷ number 1 ∷ []
 
+-- its second row, with the greatest number
 abbrev pub two : List Value
 two = number 2 ∷ number greatest ∷ []
 
+-- the rows of the tables
 abbrev pub rows : Tables
 rows = holding r (one ∷ two ∷ []) ∷ []
 
+-- what ANN is answered
 abbrev pub reply : Select → Reply
 reply s = (answered (with_tables (r ∷ [])) rows (codes "ANN") (stmts.Select s)).reply
 
+-- the column A
 abbrev pub a : Expr
 a = col (codes "A")
 
+-- the column X
 abbrev pub x : Expr
 x = col (codes "X")
 
@@ -51,6 +58,7 @@ gives s = given_rows (with_tables (r ∷ [])) rows (codes "ANN") s
 abbrev pub all : Expr → Query
 all e = select (item e ∷ []) (from (tab (codes "R")) ∷ []) None
 
+-- the query of an expression under a condition
 abbrev pub those : Expr → Cond → Query
 those e c = select (item e ∷ []) (from (tab (codes "R")) ∷ []) (Some c)
 

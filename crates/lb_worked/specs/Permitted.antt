@@ -22,6 +22,7 @@ use Rattle.lb_worked.specs.Orders.{r, one, two}
 use Rattle.lb_worked.specs.Trees.{of, col, int, plus, count_rows, equal, greater, item, tab, from, select, asked}
 use Rattle.lb_worked.specs.Tables.{column, plain, guarded_by, permission, holding, number, with_tables, answered}
 
+-- a table without rows
 abbrev pub o : Table
 o = plain (codes "O") (column (codes "B") types.Int ∷ [])
 
@@ -33,9 +34,11 @@ p1 = permission (codes "P1") r (equal (of (codes "R") (codes "A")) (int 2))
 abbrev pub p2 : PermissionRec
 p2 = permission (codes "P2") r (greater (plus (of (codes "R") (codes "X")) (int 1)) (int 0))
 
+-- the catalogue with these permissions on R
 abbrev pub cat : List PermissionRec → Cat
 cat ps = with_tables (guarded_by ps r ∷ o ∷ [])
 
+-- the rows of the tables
 abbrev pub rows : Tables
 rows = holding r (one ∷ two ∷ []) ∷ holding o [] ∷ []
 

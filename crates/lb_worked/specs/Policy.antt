@@ -27,6 +27,7 @@ region = record { kind = kinds.Tree; elements = codes "ALL" ∷ codes "EU" ∷ c
 abbrev pub parts : ℕ → ℕ → ℕ → List ℕ
 parts a b c = a ∷ b ∷ c ∷ []
 
+-- the record of a label
 abbrev pub label_rec : List ℕ → List ℕ → LabelRec
 label_rec n ps = record { name = n; parts = record { items = ps } }
 
@@ -59,12 +60,15 @@ e = record (plain (codes "E") (column (codes "NAME") (types.Text 10) ∷ record 
 abbrev pub single : Table
 single = plain (codes "ONE") (column (codes "A") types.Int ∷ [])
 
+-- the catalogue with its policy, under RESTRICT or OVERRIDE
 abbrev pub cat : Bool → Cat
 cat restrict = record (with_tables (t ∷ e ∷ single ∷ [])) { policies = policy restrict ∷ []; users = users }
 
+-- a label as a value
 abbrev pub label : ℕ → ℕ → ℕ → Value
 label a b c = values.Label (record { items = parts a b c })
 
+-- a row with its label
 abbrev pub row : ℕ → List ℕ → Value → List Value
 row id v l = number id ∷ word v ∷ l ∷ []
 

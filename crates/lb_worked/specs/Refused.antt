@@ -17,6 +17,7 @@ use Rattle.lb_worked.specs.Tables.{masked_by, number, word, with_tables, answere
 
 -- ---- privileges
 
+-- no privilege
 abbrev pub nothing : Privileges
 nothing = record { select = false; insert = false; update = false; delete = false }
 
@@ -28,6 +29,7 @@ closed = record r { public = nothing }
 abbrev pub private : Cat
 private = record (with_tables (closed ∷ [])) { users = record (no_user (codes "ANN")) { privileges = record { table = codes "R"; privileges = record nothing { select = true; delete = true } } ∷ [] } ∷ [] }
 
+-- what a user is answered
 abbrev pub by : List ℕ → Stmt → Answered
 by user s = answered private numbers user s
 

@@ -14,15 +14,19 @@ use Rattle.lb_rows.specs.Tables.{Tables}
 use Rattle.lb_worked.specs.Trees.{atom, of, col, int, count_rows, equal, item, tab, from, select, asked}
 use Rattle.lb_worked.specs.Tables.{column, plain, guarded_by, permission, holding, number, word, with_tables, answered}
 
+-- documents with their owners
 abbrev pub doc : Table
 doc = plain (codes "DOC") (column (codes "OWNER") (types.Text 10) ∷ column (codes "N") types.Int ∷ [])
 
+-- a document of ANN
 abbrev pub anns : List Value
 anns = word (codes "ANN") ∷ number 1 ∷ []
 
+-- a document of BOB
 abbrev pub bobs : List Value
 bobs = word (codes "BOB") ∷ number 2 ∷ []
 
+-- both documents
 abbrev pub rows : Tables
 rows = holding doc (anns ∷ bobs ∷ []) ∷ []
 
@@ -50,6 +54,7 @@ pg = permission (codes "PG") doc (equal group (int 1))
 abbrev pub cat : PermissionRec → Cat
 cat p = record (with_tables (guarded_by (p ∷ []) doc ∷ [])) { users = record (no_user (codes "BOB")) { roles = codes "BOSS" ∷ [] } ∷ first_cat.users }
 
+-- what a user is answered under the permission
 abbrev pub reply : PermissionRec → List ℕ → Query → Reply
 reply p user q = (answered (cat p) rows user (stmts.Select (asked q))).reply
 

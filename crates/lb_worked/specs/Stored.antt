@@ -17,12 +17,15 @@ use Rattle.lb_worked.specs.Tables.{holding, number, answered}
 abbrev pub one : List Value
 one = row 1 (codes "a") (label 2 1 4)
 
+-- the second row
 abbrev pub two : List Value
 two = row 2 (codes "b") (label 1 1 4)
 
+-- the third row
 abbrev pub three : List Value
 three = row 3 (codes "c") (label 3 0 0)
 
+-- the three rows
 abbrev pub all : List (List Value)
 all = one ∷ two ∷ three ∷ []
 

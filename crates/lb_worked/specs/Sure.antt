@@ -13,15 +13,19 @@ use Rattle.lb_rows.specs.Tables.{Tables}
 use Rattle.lb_worked.specs.Trees.{col, int, plus, case, equal, greater, both, no, item, tab, from, select, asked}
 use Rattle.lb_worked.specs.Tables.{column, plain, holding, number, greatest, with_tables, answered}
 
+-- a table of two numbers
 abbrev pub q : Table
 q = plain (codes "Q") (column (codes "A") types.Int ∷ column (codes "X") types.Int ∷ [])
 
+-- one row: a null, and the greatest number
 abbrev pub rows : Tables
 rows = holding q ((values.Null ∷ number greatest ∷ []) ∷ []) ∷ []
 
+-- the column A
 abbrev pub a : Expr
 a = col (codes "A")
 
+-- the column X
 abbrev pub x : Expr
 x = col (codes "X")
 

@@ -22,6 +22,7 @@ use Rattle.lb_answer.specs.Answer.{Answered, answer}
 
 -- ---- tables
 
+-- a column that takes nulls and is not secured
 abbrev pub column : List ℕ → Ty → ColumnRec
 column n ty = record { name = n; ty = ty; not_null = false; secured = None }
 
@@ -51,9 +52,11 @@ mask n t at e = record { name = n; column = at; correlation = t.name; value = e;
 
 -- ---- rows
 
+-- a number as a value
 abbrev pub number : ℕ → Value
 number n = values.Int (pos n)
 
+-- a text as a value
 abbrev pub word : List ℕ → Value
 word t = values.Text t
 
@@ -61,6 +64,7 @@ word t = values.Text t
 abbrev pub greatest : ℕ
 greatest = 9_223_372_036_854_775_807
 
+-- the rows of a table
 abbrev pub holding : Table → List (List Value) → Version
 holding t rows = record { name = t.name; rows = rows }
 
@@ -70,6 +74,7 @@ holding t rows = record { name = t.name; rows = rows }
 abbrev pub no_checks : Checks
 no_checks tables policies s = None
 
+-- the first catalogue with these tables
 abbrev pub with_tables : List Table → Cat
 with_tables ts = record first_cat { tables = ts }
 

@@ -21,6 +21,7 @@ use Rattle.lb_tree.specs.declared.query.Cond.TheViews.{roll-Arm, roll-Cond, roll
 
 -- ---- expressions
 
+-- an expression of one atom
 abbrev pub atom : Atom → Expr
 atom x = roll-Expr (layers.Expr-F.Atom x)
 
@@ -28,18 +29,23 @@ atom x = roll-Expr (layers.Expr-F.Atom x)
 abbrev pub bare : List ℕ → Column
 bare n = record { correlation = None; name = n }
 
+-- a column with a correlation name
 abbrev pub qualified : List ℕ → List ℕ → Column
 qualified t n = record { correlation = Some t; name = n }
 
+-- a column by its name alone
 abbrev pub col : List ℕ → Expr
 col n = atom (atoms.Column (bare n))
 
+-- a column of that item
 abbrev pub of : List ℕ → List ℕ → Expr
 of t n = atom (atoms.Column (qualified t n))
 
+-- an integer literal
 abbrev pub int : ℕ → Expr
 int n = atom (atoms.Int (pos n))
 
+-- a text literal
 abbrev pub text : List ℕ → Expr
 text t = atom (atoms.Text t)
 
@@ -51,9 +57,11 @@ plus a b = roll-Expr (layers.Expr-F.Sum (roll-Signed (record { minus = false; pa
 abbrev pub case : Cond → Expr → Expr → Expr
 case c a b = roll-Expr (layers.Expr-F.Case (roll-Arm (record { when = c; result = a }) ∷ []) (Some b))
 
+-- COALESCE of two
 abbrev pub coalesce : Expr → Expr → Expr
 coalesce a b = roll-Expr (layers.Expr-F.Coalesce (a ∷ b ∷ []))
 
+-- an aggregate
 abbrev pub aggregate : Aggregate → Expr → Expr
 aggregate op e = roll-Expr (layers.Expr-F.Aggregate op e)
 
@@ -63,35 +71,45 @@ count_rows = atom atoms.CountRows
 
 -- ---- conditions
 
+-- a comparison
 abbrev pub compare : Comparison → Expr → Expr → Cond
 compare by a b = roll-Cond (layers.Cond-F.Compare by a b)
 
+-- `=`
 abbrev pub equal : Expr → Expr → Cond
 equal a b = compare comparisons.Equal a b
 
+-- `>`
 abbrev pub greater : Expr → Expr → Cond
 greater a b = compare comparisons.Greater a b
 
+-- AND
 abbrev pub both : Cond → Cond → Cond
 both a b = roll-Cond (layers.Cond-F.And (a ∷ b ∷ []))
 
+-- NOT
 abbrev pub no : Cond → Cond
 no c = roll-Cond (layers.Cond-F.Not c)
 
+-- IN with a list
 abbrev pub in_list : Expr → List Expr → Cond
 in_list a es = roll-Cond (layers.Cond-F.InList a es)
 
+-- BETWEEN
 abbrev pub between : Expr → Expr → Expr → Cond
 between a low high = roll-Cond (layers.Cond-F.Between a low high)
 
+-- EXISTS
 abbrev pub exists : Query → Cond
 exists q = roll-Cond (layers.Cond-F.Exists q)
 
+-- `=` with a subquery
 abbrev pub equal_query : Expr → Query → Cond
 equal_query a q = roll-Cond (layers.Cond-F.CompareQuery comparisons.Equal a q)
 
 -- ---- queries
 
+-- an item without a name
 abbrev pub item : Expr → Item
 item e = roll-Item (layers.Item-F.Value e None)
 
@@ -99,18 +117,23 @@ item e = roll-Item (layers.Item-F.Value e None)
 abbrev pub tab : List ℕ → Tab
 tab n = record { table = n; correlation = None }
 
+-- a table with a correlation name
 abbrev pub named : List ℕ → List ℕ → Tab
 named n correlation = record { table = n; correlation = Some correlation }
 
+-- one table
 abbrev pub from : Tab → Chain
 from t = roll-Chain (record { first = t; joins = [] })
 
+-- a table with its joins
 abbrev pub joined : Tab → List Join → Chain
 joined t joins = roll-Chain (record { first = t; joins = joins })
 
+-- INNER JOIN
 abbrev pub inner_join : Tab → Cond → Join
 inner_join t c = roll-Join (layers.Join-F.Inner t c)
 
+-- LEFT JOIN
 abbrev pub left_join : Tab → Cond → Join
 left_join t c = roll-Join (layers.Join-F.Left t c)
 
@@ -136,6 +159,7 @@ select_having items chains filter columns c = roll-Query (record { distinct = fa
 
 -- ---- query statements
 
+-- a query without ORDER BY
 abbrev pub asked : Query → Select
 asked q = record { query = q; order = []; fetch = None }
 
@@ -143,9 +167,11 @@ asked q = record { query = q; order = []; fetch = None }
 abbrev pub up : Expr → SortKey
 up e = record { by = e; direction = Ascending }
 
+-- a descending key
 abbrev pub down : Expr → SortKey
 down e = record { by = e; direction = Descending }
 
+-- a query with one key
 abbrev pub ordered : Query → SortKey → Select
 ordered q k = record { query = q; order = k ∷ []; fetch = None }
 

@@ -17,9 +17,11 @@ use Rattle.lb_worked.specs.Tables.{column, plain, guarded_by, masked_by, holding
 abbrev pub k : Table
 k = record (plain (codes "K") (record (column (codes "ID") types.Int) { not_null = true } ∷ column (codes "X") types.Int ∷ [])) { key = Some 0 }
 
+-- the first row
 abbrev pub one : List Value
 one = number 1 ∷ number 10 ∷ []
 
+-- the second row
 abbrev pub two : List Value
 two = number 2 ∷ number 20 ∷ []
 
@@ -68,6 +70,7 @@ NoPermission = answered (with_tables (guarded_by [] w ∷ r ∷ [])) (holding w 
 abbrev pub copy : Table
 copy = plain (codes "KEPT") (column (codes "A") (types.Text 20) ∷ [])
 
+-- what CARL is answered where the masked rows are copied
 abbrev pub to_copy : Stmt → Answered
 to_copy s = answered (with_tables (copy ∷ masked_by (m2 ∷ []) emp ∷ [])) (holding copy [] ∷ employees) (codes "CARL") s
 
