@@ -43,7 +43,7 @@ pub fn expr_has_total(expr: &Expr) -> bool
 }
 
 fn counts_rows(atom: &Atom) -> bool
-    ensures { result ≡ Rattle.lb_names.specs.Expressions.counts_rows atom.now }
+    ensures { result ≡ Rattle.lb_names.specs.Sure.counts_rows atom.now }
 {
     match atom {
         Atom::CountRows => true,
