@@ -7,23 +7,6 @@ use Rattle.lb_cat.specs.Catalog.{Table}
 use Rattle.lb_alter.specs.Stored.{Stored, mentions_of, mentioned_in, stored_in, stored_name, calls_policy, calls_label}
 use Rattle.lb_names.specs.Mentions.{Mention, Mentions, is_policy_mention, is_label_mention}
 
--- one passes exactly where one is found
-pub none_passes : {A : Type 0} (test : A → Bool) (xs : List A) → find test xs ≡ None → list_any test xs ≡ false
-none_passes test [] h = refl
-none_passes test (x ∷ xs) h =
-    elim (test x) as (λ b. cond b (Some x) (find test xs) ≡ None → b || list_any test xs ≡ false) [
-      | true ↦ λ i. absurd cc
-      | false ↦ λ i. none_passes test xs i
-    ] h
-
-pub one_passes : {A : Type 0} (test : A → Bool) (xs : List A) (m : A) → find test xs ≡ Some m → list_any test xs ≡ true
-one_passes test [] m h = absurd cc
-one_passes test (x ∷ xs) m h =
-    elim (test x) as (λ b. cond b (Some x) (find test xs) ≡ Some m → b || list_any test xs ≡ true) [
-      | true ↦ λ i. refl
-      | false ↦ λ i. one_passes test xs m i
-    ] h
-
 -- one of all mentions passes exactly where something mentions one that does
 any_of_all : (test : Mention → Bool) (xs : List Stored) → list_any test (flat_map mentions_of xs) ≡ is_some (find (λ s. list_any test s.mentions) xs)
 any_of_all test [] = refl
@@ -32,6 +15,11 @@ any_of_all test (x ∷ xs) = list_any-append test x.mentions (flat_map mentions_
       | true ↦ refl
       | false ↦ any_of_all test xs
     ]
+
+-- what is seen otherwise is there as well
+pub is_there : {X : Type 0} (seen : X → List ℕ) (x : Option X) → is_some x ≡ is_some (option_map seen x)
+is_there seen None = refl
+is_there seen (Some x) = refl
 
 -- a name is there exactly where what has it is
 has_name : (x : Option Stored) → is_some (option_map stored_name x) ≡ is_some x

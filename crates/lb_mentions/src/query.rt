@@ -1,139 +1,145 @@
-// The search through expressions, conditions and queries, in text order. The recursion goes as deep as the text is nested.
-ghost use Rattle.std.specs.Prelude.{◌≡◌, ◌∷◌, ◌++◌, []};
-ghost use Rattle.std.specs.List.{flat_map};
-ghost use Rattle.lb_names.specs.Mentions.{in_cond, in_expr, in_query};
+// The search through expressions, conditions and queries. The recursion goes as deep as the text is nested.
+ghost use Rattle.std.specs.Prelude.{◌≡◌};
+ghost use Rattle.std.specs.List.{list_any};
+ghost use Rattle.lb_names.specs.Mentions as mentions;
 ghost use Rattle.lb_mentions.specs.Parts as parts;
-ghost use Rattle.lb_mentions.specs.Seeking.{Seeks};
+ghost use Rattle.lb_mentions.specs.Seeking.{is_sought};
 
-use crate::sought::{Found, Sought};
+use crate::sought::Sought;
 use lb_tree::{Arm, Chain, Choice, Cond, Expr, Item, Join, Query, Signed};
 use sqlite_items::Boxed;
 
-/// Stops at the first mention in the condition of a permission that is looked for.
-pub fn find_in_condition<'t>(sought: Sought<'_>, condition: &'t Cond) -> Result<(), Found<'t>>
-    ensures { Seeks sought.entry (in_cond condition.now) result }
-{
-    sought.cond(condition)
-}
+impl Sought<'_> {
+    /// Whether the condition of a permission mentions it.
+    #[tactic(auto, using(crate::proofs::Nodes::whole_cond))]
+    pub fn in_condition(&self, condition: &Cond) -> bool
+        ensures { result ≡ list_any (is_sought self.now) (mentions.in_cond condition.now) }
+    {
+        self.cond(condition)
+    }
 
-/// Stops at the first mention in the CASE of a mask that is looked for.
-pub fn find_in_value<'t>(sought: Sought<'_>, value: &'t Expr) -> Result<(), Found<'t>>
-    ensures { Seeks sought.entry (in_expr value.now) result }
-{
-    sought.expr(value)
+    /// Whether the CASE of a mask mentions it.
+    #[tactic(auto, using(crate::proofs::Nodes::whole_expr))]
+    pub fn in_value(&self, value: &Expr) -> bool
+        ensures { result ≡ list_any (is_sought self.now) (mentions.in_expr value.now) }
+    {
+        self.expr(value)
+    }
 }
 
 /// Expressions.
 impl Sought<'_> {
     #[tactic(auto, using(crate::proofs::Rules::expressions))]
     #[cycle(mentions)]
-    fn expr<'t>(self, expr: &'t Expr) -> Result<(), Found<'t>>
-        ensures { Seeks self.entry (in_expr expr.now) result }
+    fn expr(&self, expr: &Expr) -> bool
+        ensures { result ≡ parts.in_expr self.now expr.now }
     {
         match expr {
-            Expr::Atom(atom) => self.in_atom(atom),
+            Expr::Atom(atom) => self.is_called(atom),
             Expr::Sum(list) => self.sum(list.as_slice()),
             Expr::Concat(list) => self.exprs(list.as_slice()),
             Expr::Product(list) => self.exprs(list.as_slice()),
             Expr::Case(arms, otherwise) => {
-                self.arms(arms.as_slice())?;
-                self.maybe_expr(otherwise)
+                self.arms(arms.as_slice()) || self.maybe_expr(otherwise)
             }
             Expr::Match(operand, choices, otherwise) => {
-                self.expr(operand.get())?;
-                self.choices(choices.as_slice())?;
-                self.maybe_expr(otherwise)
+                if self.expr(operand.get()) {
+                    return true;
+                }
+                self.choices(choices.as_slice()) || self.maybe_expr(otherwise)
             }
             Expr::Aggregate(_, part) => self.expr(part.get()),
             Expr::Substr(text, from, length) => {
-                self.expr(text.get())?;
-                self.expr(from.get())?;
-                self.maybe_expr(length)
+                if self.expr(text.get()) {
+                    return true;
+                }
+                self.expr(from.get()) || self.maybe_expr(length)
             }
             Expr::Apply(_, part) => self.expr(part.get()),
             Expr::Coalesce(list) => self.exprs(list.as_slice()),
         }
     }
 
-    #[tactic(auto, using(crate::proofs::Rules::passing))]
     #[cycle(mentions)]
-    fn exprs<'t>(self, list: &'t [Expr]) -> Result<(), Found<'t>>
-        ensures { Seeks self.entry (flat_map in_expr list.now) result }
+    fn exprs(&self, list: &[Expr]) -> bool
+        ensures { result ≡ list_any (parts.in_expr self.now) list.now }
     {
         for part in list {
-            self.expr(part)?;
+            if self.expr(part) {
+                return true;
+            }
         }
-        Ok(())
+        false
     }
 
-    #[tactic(auto, using(crate::proofs::Rules::passing))]
     #[cycle(mentions)]
-    fn maybe_expr<'t>(self, part: &'t Option<Boxed<Expr>>) -> Result<(), Found<'t>>
-        ensures { Seeks self.entry (parts.in_maybe in_expr part.now) result }
+    fn maybe_expr(&self, part: &Option<Boxed<Expr>>) -> bool
+        ensures { result ≡ parts.of_maybe (parts.in_expr self.now) part.now }
     {
         match part {
-            None => Ok(()),
+            None => false,
             Some(part) => self.expr(part.get()),
         }
     }
 
-    #[tactic(auto, using(crate::proofs::Rules::passing))]
     #[cycle(mentions)]
-    fn sum<'t>(self, list: &'t [Signed]) -> Result<(), Found<'t>>
-        ensures { Seeks self.entry (flat_map parts.in_signed list.now) result }
+    fn sum(&self, list: &[Signed]) -> bool
+        ensures { result ≡ list_any (parts.in_signed self.now) list.now }
     {
         for part in list {
-            self.signed(part)?;
+            if self.signed(part) {
+                return true;
+            }
         }
-        Ok(())
+        false
     }
 
     #[tactic(auto, using(crate::proofs::Rules::nodes))]
     #[cycle(mentions)]
-    fn signed<'t>(self, part: &'t Signed) -> Result<(), Found<'t>>
-        ensures { Seeks self.entry (parts.in_signed part.now) result }
+    fn signed(&self, part: &Signed) -> bool
+        ensures { result ≡ parts.in_signed self.now part.now }
     {
         self.expr(&part.part)
     }
 
-    #[tactic(auto, using(crate::proofs::Rules::passing))]
     #[cycle(mentions)]
-    fn arms<'t>(self, arms: &'t [Arm]) -> Result<(), Found<'t>>
-        ensures { Seeks self.entry (flat_map parts.in_arm arms.now) result }
+    fn arms(&self, arms: &[Arm]) -> bool
+        ensures { result ≡ list_any (parts.in_arm self.now) arms.now }
     {
         for arm in arms {
-            self.arm(arm)?;
+            if self.arm(arm) {
+                return true;
+            }
         }
-        Ok(())
+        false
     }
 
     #[tactic(auto, using(crate::proofs::Rules::nodes))]
     #[cycle(mentions)]
-    fn arm<'t>(self, arm: &'t Arm) -> Result<(), Found<'t>>
-        ensures { Seeks self.entry (parts.in_arm arm.now) result }
+    fn arm(&self, arm: &Arm) -> bool
+        ensures { result ≡ parts.in_arm self.now arm.now }
     {
-        self.cond(&arm.when)?;
-        self.expr(&arm.result)
+        self.cond(&arm.when) || self.expr(&arm.result)
     }
 
-    #[tactic(auto, using(crate::proofs::Rules::passing))]
     #[cycle(mentions)]
-    fn choices<'t>(self, choices: &'t [Choice]) -> Result<(), Found<'t>>
-        ensures { Seeks self.entry (flat_map parts.in_choice choices.now) result }
+    fn choices(&self, choices: &[Choice]) -> bool
+        ensures { result ≡ list_any (parts.in_choice self.now) choices.now }
     {
         for choice in choices {
-            self.choice(choice)?;
+            if self.choice(choice) {
+                return true;
+            }
         }
-        Ok(())
+        false
     }
 
     #[tactic(auto, using(crate::proofs::Rules::nodes))]
     #[cycle(mentions)]
-    fn choice<'t>(self, choice: &'t Choice) -> Result<(), Found<'t>>
-        ensures { Seeks self.entry (parts.in_choice choice.now) result }
+    fn choice(&self, choice: &Choice) -> bool
+        ensures { result ≡ parts.in_choice self.now choice.now }
     {
-        self.expr(&choice.when)?;
-        self.expr(&choice.result)
+        self.expr(&choice.when) || self.expr(&choice.result)
     }
 }
 
@@ -141,57 +147,43 @@ impl Sought<'_> {
 impl Sought<'_> {
     #[tactic(auto, using(crate::proofs::Rules::conditions))]
     #[cycle(mentions)]
-    fn cond<'t>(self, cond: &'t Cond) -> Result<(), Found<'t>>
-        ensures { Seeks self.entry (in_cond cond.now) result }
+    fn cond(&self, cond: &Cond) -> bool
+        ensures { result ≡ parts.in_cond self.now cond.now }
     {
         match cond {
             Cond::Or(list) => self.conds(list.as_slice()),
             Cond::And(list) => self.conds(list.as_slice()),
             Cond::Not(part) => self.cond(part.get()),
             Cond::Exists(query) => self.query(query.get()),
-            Cond::Compare(_, left, right) => {
-                self.expr(left.get())?;
-                self.expr(right.get())
-            }
-            Cond::CompareQuery(_, left, query) => {
-                self.expr(left.get())?;
-                self.query(query.get())
-            }
+            Cond::Compare(_, left, right) => self.expr(left.get()) || self.expr(right.get()),
+            Cond::CompareQuery(_, left, query) => self.expr(left.get()) || self.query(query.get()),
             Cond::IsNull(part) => self.expr(part.get()),
-            Cond::InQuery(part, query) => {
-                self.expr(part.get())?;
-                self.query(query.get())
-            }
-            Cond::InList(part, list) => {
-                self.expr(part.get())?;
-                self.exprs(list.as_slice())
-            }
+            Cond::InQuery(part, query) => self.expr(part.get()) || self.query(query.get()),
+            Cond::InList(part, list) => self.expr(part.get()) || self.exprs(list.as_slice()),
             Cond::Between(part, low, high) => {
-                self.expr(part.get())?;
-                self.expr(low.get())?;
-                self.expr(high.get())
+                self.expr(part.get()) || self.expr(low.get()) || self.expr(high.get())
             }
         }
     }
 
-    #[tactic(auto, using(crate::proofs::Rules::passing))]
     #[cycle(mentions)]
-    fn conds<'t>(self, list: &'t [Cond]) -> Result<(), Found<'t>>
-        ensures { Seeks self.entry (flat_map in_cond list.now) result }
+    fn conds(&self, list: &[Cond]) -> bool
+        ensures { result ≡ list_any (parts.in_cond self.now) list.now }
     {
         for part in list {
-            self.cond(part)?;
+            if self.cond(part) {
+                return true;
+            }
         }
-        Ok(())
+        false
     }
 
-    #[tactic(auto, using(crate::proofs::Rules::passing))]
     #[cycle(mentions)]
-    fn maybe_cond<'t>(self, part: &'t Option<Boxed<Cond>>) -> Result<(), Found<'t>>
-        ensures { Seeks self.entry (parts.in_maybe in_cond part.now) result }
+    fn maybe_cond(&self, part: &Option<Boxed<Cond>>) -> bool
+        ensures { result ≡ parts.of_maybe (parts.in_cond self.now) part.now }
     {
         match part {
-            None => Ok(()),
+            None => false,
             Some(part) => self.cond(part.get()),
         }
     }
@@ -201,83 +193,82 @@ impl Sought<'_> {
 impl Sought<'_> {
     #[tactic(auto, using(crate::proofs::Rules::queries))]
     #[cycle(mentions)]
-    fn query<'t>(self, query: &'t Query) -> Result<(), Found<'t>>
-        ensures { Seeks self.entry (in_query query.now) result }
+    fn query(&self, query: &Query) -> bool
+        ensures { result ≡ parts.in_query self.now query.now }
     {
-        self.items(query.items.as_slice())?;
-        self.chains(query.from.as_slice())?;
-        self.maybe_cond(&query.filter)?;
-        self.maybe_cond(&query.having)
+        if self.items(query.items.as_slice()) {
+            return true;
+        }
+        if self.chains(query.from.as_slice()) {
+            return true;
+        }
+        self.maybe_cond(&query.filter) || self.maybe_cond(&query.having)
     }
 
-    #[tactic(auto, using(crate::proofs::Rules::passing))]
     #[cycle(mentions)]
-    fn items<'t>(self, items: &'t [Item]) -> Result<(), Found<'t>>
-        ensures { Seeks self.entry (flat_map parts.in_item items.now) result }
+    fn items(&self, items: &[Item]) -> bool
+        ensures { result ≡ list_any (parts.in_item self.now) items.now }
     {
         for item in items {
-            self.item(item)?;
+            if self.item(item) {
+                return true;
+            }
         }
-        Ok(())
+        false
     }
 
     #[tactic(auto, using(crate::proofs::Rules::nodes))]
     #[cycle(mentions)]
-    fn item<'t>(self, item: &'t Item) -> Result<(), Found<'t>>
-        ensures { Seeks self.entry (parts.in_item item.now) result }
+    fn item(&self, item: &Item) -> bool
+        ensures { result ≡ parts.in_item self.now item.now }
     {
         match item {
-            Item::Everything | Item::AllOf(_) => Ok(()),
+            Item::Everything | Item::AllOf(_) => false,
             Item::Value(value, _) => self.expr(value),
         }
     }
 
-    #[tactic(auto, using(crate::proofs::Rules::passing))]
     #[cycle(mentions)]
-    fn chains<'t>(self, chains: &'t [Chain]) -> Result<(), Found<'t>>
-        ensures { Seeks self.entry (flat_map parts.in_chain chains.now) result }
+    fn chains(&self, chains: &[Chain]) -> bool
+        ensures { result ≡ list_any (parts.in_chain self.now) chains.now }
     {
         for chain in chains {
-            self.chain(chain)?;
+            if self.chain(chain) {
+                return true;
+            }
         }
-        Ok(())
+        false
     }
 
     #[tactic(auto, using(crate::proofs::Rules::nodes))]
     #[cycle(mentions)]
-    fn chain<'t>(self, chain: &'t Chain) -> Result<(), Found<'t>>
-        ensures { Seeks self.entry (parts.in_chain chain.now) result }
+    fn chain(&self, chain: &Chain) -> bool
+        ensures { result ≡ parts.in_chain self.now chain.now }
     {
-        self.in_tab(&chain.first)?;
-        self.joins(chain.joins.as_slice())
+        self.is_table(&chain.first.table) || self.joins(chain.joins.as_slice())
     }
 
-    #[tactic(auto, using(crate::proofs::Rules::passing))]
     #[cycle(mentions)]
-    fn joins<'t>(self, joins: &'t [Join]) -> Result<(), Found<'t>>
-        ensures { Seeks self.entry (flat_map parts.in_join joins.now) result }
+    fn joins(&self, joins: &[Join]) -> bool
+        ensures { result ≡ list_any (parts.in_join self.now) joins.now }
     {
         for join in joins {
-            self.join(join)?;
+            if self.join(join) {
+                return true;
+            }
         }
-        Ok(())
+        false
     }
 
     #[tactic(auto, using(crate::proofs::Rules::nodes))]
     #[cycle(mentions)]
-    fn join<'t>(self, join: &'t Join) -> Result<(), Found<'t>>
-        ensures { Seeks self.entry (parts.in_join join.now) result }
+    fn join(&self, join: &Join) -> bool
+        ensures { result ≡ parts.in_join self.now join.now }
     {
         match join {
-            Join::Inner(tab, on) => {
-                self.in_tab(tab)?;
-                self.cond(on)
-            }
-            Join::Left(tab, on) => {
-                self.in_tab(tab)?;
-                self.cond(on)
-            }
-            Join::Cross(tab) => self.in_tab(tab),
+            Join::Inner(tab, on) => self.is_table(&tab.table) || self.cond(on),
+            Join::Left(tab, on) => self.is_table(&tab.table) || self.cond(on),
+            Join::Cross(tab) => self.is_table(&tab.table),
         }
     }
 }

@@ -1,10 +1,11 @@
-// What is looked for among the names of a condition, and what is found.
-ghost use Rattle.std.specs.Prelude.{◌∷◌, []};
+// What is looked for among the mentions of a condition.
+ghost use Rattle.std.specs.Prelude.{◌≡◌};
+ghost use Rattle.std.specs.List.{list_any};
 ghost use Rattle.lb_names.specs.Mentions as mentions;
-ghost use Rattle.lb_mentions.specs.Seeking.{Seeks, is_sought};
+ghost use Rattle.lb_mentions.specs.Seeking.{is_sought};
 
 use lb_base::{Name, Str};
-use lb_tree::{Atom, Tab};
+use lb_tree::Atom;
 
 /// What is looked for.
 #[derive(Clone, Copy)]
@@ -17,60 +18,48 @@ pub enum Sought<'a> {
     Label(&'a Name, &'a Name),
 }
 
-/// What is found: it is named as here.
-#[derive(Clone, Copy)]
-pub enum Found<'t> {
-    Table(&'t Name),
-    Policy(&'t Str),
-    Label(&'t Str, &'t Str),
-}
-
 impl Sought<'_> {
-    /// Stops at a FROM item whose table is looked for.
-    pub fn in_tab<'t>(self, tab: &'t Tab) -> Result<(), Found<'t>>
-        ensures { Seeks self.entry (mentions.table tab.now.table ∷ []) result }
+    /// Whether it is a table of this name.
+    pub fn is_table(&self, table: &Name) -> bool
+        ensures { result ≡ is_sought self.now (mentions.table table.now) }
     {
         match self {
-            Sought::Table(name) if tab.table.is(name) => Err(Found::Table(&tab.table)),
-            _ => Ok(()),
+            Sought::Table(name) => table.is(name),
+            Sought::Policy(_) | Sought::Label(_, _) => false,
         }
     }
 
-    /// Stops at a call that names what is looked for.
-    pub fn in_atom<'t>(self, atom: &'t Atom) -> Result<(), Found<'t>>
-        ensures { Seeks self.entry (mentions.in_atom atom.now) result }
+    /// Whether a leaf calls it.
+    #[tactic(auto, using(crate::proofs::Parts::one_is))]
+    pub fn is_called(&self, atom: &Atom) -> bool
+        ensures { result ≡ list_any (is_sought self.now) (mentions.in_atom atom.now) }
     {
         match atom {
-            Atom::SecLabel(policy, _) => self.in_policy(policy),
-            Atom::SecLabelByName(policy, label) => self.in_label(policy, label),
-            Atom::SecLabelToChar(policy, _) => self.in_policy(policy),
-            _ => Ok(()),
+            Atom::SecLabel(policy, _) => self.is_policy(policy),
+            Atom::SecLabelByName(policy, label) => self.is_label(policy, label),
+            Atom::SecLabelToChar(policy, _) => self.is_policy(policy),
+            _ => false,
         }
     }
 
-    fn in_policy<'t>(self, policy: &'t Str) -> Result<(), Found<'t>>
-        ensures { Seeks self.entry (mentions.policy policy.now ∷ []) result }
+    fn is_policy(&self, policy: &Str) -> bool
+        ensures { result ≡ is_sought self.now (mentions.policy policy.now) }
     {
         match self {
-            Sought::Policy(name) if policy.as_str() == name.as_str() => {
-                Err(Found::Policy(policy))
-            }
-            _ => Ok(()),
+            Sought::Policy(name) => policy.as_str() == name.as_str(),
+            Sought::Table(_) | Sought::Label(_, _) => false,
         }
     }
 
-    fn in_label<'t>(self, policy: &'t Str, label: &'t Str) -> Result<(), Found<'t>>
-        ensures { Seeks self.entry (mentions.label policy.now label.now ∷ []) result }
+    fn is_label(&self, policy: &Str, label: &Str) -> bool
+        ensures { result ≡ is_sought self.now (mentions.label policy.now label.now) }
     {
         match self {
-            Sought::Policy(name) if policy.as_str() == name.as_str() => {
-                Err(Found::Label(policy, label))
+            Sought::Table(_) => false,
+            Sought::Policy(name) => policy.as_str() == name.as_str(),
+            Sought::Label(name, of) => {
+                policy.as_str() == name.as_str() && label.as_str() == of.as_str()
             }
-            Sought::Label(name, of)
-                if policy.as_str() == name.as_str() && label.as_str() == of.as_str() => {
-                Err(Found::Label(policy, label))
-            }
-            _ => Ok(()),
         }
     }
 }
