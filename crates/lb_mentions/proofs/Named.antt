@@ -1,11 +1,11 @@
 -- Permissions and masks that name what is looked for.
-use Rattle.std.proofs.Common.{ℕ, ◌≡◌, refl, ap, sym, ◌∙◌, Bool, true, false, cond, ◌||◌, List, [], ◌∷◌, ◌++◌, Option, Some, None, option_map}
+use Rattle.std.proofs.Common.{ℕ, ◌≡◌, refl, sym, ◌∙◌, Bool, true, false, cond, ◌||◌, List, [], ◌∷◌, ◌++◌, Option, Some, None, option_map}
 use Rattle.std.specs.Prelude.{find, is_some}
 use Rattle.std.specs.List.{flat_map, list_any}
 use Rattle.std.proofs.lemmas.List.Folds.{list_any-append}
 use Rattle.lb_cat.specs.Catalog.{Table}
-use Rattle.lb_alter.specs.Stored.{Stored, mentions_of, mentioned_in, stored_in, stored_name, calls_policy, calls_label}
-use Rattle.lb_names.specs.Mentions.{Mention, Mentions, is_policy_mention, is_label_mention}
+use Rattle.lb_alter.specs.Stored.{Stored, mentions_of, mentioned_in, stored_in, stored_name}
+use Rattle.lb_names.specs.Mentions.{Mention}
 
 -- one of all mentions passes exactly where something mentions one that does
 any_of_all : (test : Mention → Bool) (xs : List Stored) → list_any test (flat_map mentions_of xs) ≡ is_some (find (λ s. list_any test s.mentions) xs)

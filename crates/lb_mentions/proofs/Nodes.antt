@@ -1,12 +1,10 @@
 -- Whether a node of each kind has a mention that is looked for, by whether its parts have.
-use Rattle.std.proofs.Common.{ℕ, ◌≡◌, refl, ap, ◌∙◌, Bool, false, ◌||◌, List, [], ◌∷◌, ◌++◌, Option, Some, None, map, option_map}
+use Rattle.std.proofs.Common.{ℕ, ◌≡◌, refl, ap, ◌∙◌, false, ◌||◌, List, [], ◌∷◌, ◌++◌, Option, Some, None, map, option_map}
 use Rattle.std.specs.List.{list_any}
 use Rattle.std.proofs.Math.Bool.{or-false}
 use Rattle.std.proofs.lemmas.List.Folds.{list_any-append}
 use Rattle.lb_tree.specs.declared.query.Cond.{Cond}
 use Rattle.lb_tree.specs.declared.query.Expr.{Expr}
-use Rattle.lb_tree.specs.declared.query.Item.{Item}
-use Rattle.lb_tree.specs.declared.query.Join.{Join}
 use Rattle.lb_tree.specs.declared.query.Arm.{Arm}
 use Rattle.lb_tree.specs.declared.query.Chain.{Chain}
 use Rattle.lb_tree.specs.declared.query.Choice.{Choice}
