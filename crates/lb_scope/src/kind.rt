@@ -3,7 +3,7 @@ ghost use Rattle.std.specs.Prelude.{◌≡◌};
 ghost use Rattle.lb_names.specs.Kinds as kinds;
 ghost use Rattle.lb_scope.specs.Found.{kind_in};
 
-use lb_base::{Name, Ty};
+use lb_base::Ty;
 
 /// The kind of an expression. A label's kind lends the name of its policy.
 #[derive(Clone, Copy)]
@@ -13,8 +13,8 @@ pub enum Kind<'a> {
     Integer,
     Text,
     Date,
-    /// A label of the policy with that name.
-    Label(&'a Name),
+    /// A label of the policy with that name, as it is written.
+    Label(&'a str),
 }
 
 /// The kind of the values of a type.
@@ -25,6 +25,6 @@ pub fn kind_of(ty: &Ty) -> Kind<'_>
         Ty::Int => Kind::Integer,
         Ty::Text(_) => Kind::Text,
         Ty::Date => Kind::Date,
-        Ty::Label(policy) => Kind::Label(policy),
+        Ty::Label(policy) => Kind::Label(policy.as_str()),
     }
 }
