@@ -3,3 +3,4 @@ mod Nodes
 mod Rules
 mod Stopping
 mod Whole
+mod Sources

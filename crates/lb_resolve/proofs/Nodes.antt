@@ -34,7 +34,6 @@ use Rattle.lb_resolve.specs.declared.mark.Pass.{Pass}
 use Rattle.lb_resolve.specs.declared.mark.Pass.TheVariants as passes
 use Rattle.lb_resolve.specs.Passing.{refusal_in, asked}
 use Rattle.lb_resolve.specs.Parts as p
-use Rattle.lb_scope.specs.Found.{catalogue}
 use Rattle.lb_scope.proofs.FromTables.{chain_is}
 
 -- ---- lists of names
@@ -61,24 +60,26 @@ module _ (a : Mark → Option Refused) where
   first_any m g v (Some x) = refl
 
 -- the beginning of a query is never refused
-enter_in : (C : _) (stored : Bool) (pass : Pass) (seen : List Seen) → refusal_in C stored pass (enter seen) ≡ None
-enter_in C stored passes.Tables seen = refl
-enter_in C stored passes.Columns seen = refl
-enter_in C stored passes.Calls seen = refl
-enter_in C stored passes.Texts seen = refl
+enter_in : (K : _) (stored : Bool) (pass : Pass) (seen : List Seen) → refusal_in K stored pass (enter seen) ≡ None
+enter_in K stored passes.Tables seen = refl
+enter_in K stored passes.Columns seen = refl
+enter_in K stored passes.Calls seen = refl
+enter_in K stored passes.Texts seen = refl
+enter_in K stored (passes.Sources protected) seen = refl
 
-star_in : (C : _) (stored : Bool) (pass : Pass) (seen : List Seen) → refusal_in C stored pass (star seen None) ≡ None
-star_in C stored passes.Tables seen = refl
-star_in C stored passes.Columns seen = refl
-star_in C stored passes.Calls seen = refl
-star_in C stored passes.Texts seen = refl
+star_in : (K : _) (stored : Bool) (pass : Pass) (seen : List Seen) → refusal_in K stored pass (star seen None) ≡ None
+star_in K stored passes.Tables seen = refl
+star_in K stored passes.Columns seen = refl
+star_in K stored passes.Calls seen = refl
+star_in K stored passes.Texts seen = refl
+star_in K stored (passes.Sources protected) seen = refl
 
 module _ (w : Walk) where
   abbrev a : Mark → Option Refused
   a = asked w
 
   pub enter_passes : (seen : List Seen) → asked w (enter seen) ≡ None
-  enter_passes seen = enter_in (catalogue w.catalog.now) w.stored w.pass seen
+  enter_passes seen = enter_in w.catalog.now w.stored w.pass seen
 
   -- ---- conditions
 
@@ -195,7 +196,7 @@ module _ (w : Walk) where
 
   pub is_everything : (v : Sight) → p.in_item w items.Everything v ≡ None
   unfolding p.in_item
-  is_everything v = ap (λ r. first a (r.marks v)) (opens.item_everything marked mark_steps) ∙ or_none (a (star v.own None)) ∙ star_in (catalogue w.catalog.now) w.stored w.pass v.own
+  is_everything v = ap (λ r. first a (r.marks v)) (opens.item_everything marked mark_steps) ∙ or_none (a (star v.own None)) ∙ star_in w.catalog.now w.stored w.pass v.own
 
   pub is_all_of : (n : Name) (v : Sight) → p.in_item w (items.AllOf n) v ≡ asked w (star v.own (Some n))
   unfolding p.in_item

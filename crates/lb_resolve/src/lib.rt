@@ -4,8 +4,10 @@
 mod mark;
 mod query;
 mod refused;
+mod source;
 mod statement;
 mod stop;
 mod target;
 
 pub use refused::{mask_names_refused, names_refused, permission_names_refused};
+pub use source::{condition_source, value_source};

@@ -1,5 +1,10 @@
 // What each pass asks of a name: a FROM item, a column, a `*`, or a call that names a policy.
 ghost use Rattle.std.specs.Prelude.{◌≡◌, Some, None};
+ghost use Rattle.std.specs.List.{list_any};
+ghost use Rattle.lb_alter.specs.ChangeControl as control;
+ghost use Rattle.lb_alter.specs.ChangeTable.{is_label_column};
+ghost use Rattle.lb_cat.specs.Catalog.{table_named};
+ghost use Rattle.lb_cat.specs.Stamps.{bare};
 ghost use Rattle.lb_names.specs.Marks as marks;
 ghost use Rattle.lb_names.specs.Passes as passes;
 ghost use Rattle.lb_names.specs.declared.refused.Refused.TheVariants as refused;
@@ -8,8 +13,8 @@ ghost use Rattle.lb_scope.specs.Found.{catalogue};
 ghost use Rattle.lb_resolve.specs.Passing.{Passes, asked};
 
 use crate::stop::Stop;
-use lb_base::{Name, Str};
-use lb_cat::Catalog;
+use lb_base::{Name, Str, Ty};
+use lb_cat::{Catalog, ColumnRec};
 use lb_names::{Refused, Seen};
 use lb_scope::{Meaning, correlation, has_label, has_policy, has_table, label_fault, resolve};
 use lb_tree::{Atom, Column, Tab};
@@ -17,7 +22,7 @@ use std::alloc::Global;
 
 /// What a pass asks for.
 #[derive(Clone, Copy)]
-pub enum Pass {
+pub enum Pass<'a> {
     /// That the table of each FROM item is there, and its correlation name isn't taken.
     Tables,
     /// That each column means something.
@@ -26,6 +31,8 @@ pub enum Pass {
     Calls,
     /// That the texts of SECLABEL are label texts.
     Texts,
+    /// That a permission or mask of this table may read each table of FROM. One that may not is told as Unknown.
+    Sources(&'a Name),
 }
 
 /// A pass over the names of a text.
@@ -35,7 +42,7 @@ pub struct Walk<'a> {
     pub catalog: &'a Catalog,
     /// It is the text of a permission or mask, in which a correlation name of an enclosing query is taken too.
     pub stored: bool,
-    pub pass: Pass,
+    pub pass: Pass<'a>,
 }
 
 impl Walk<'_> {
@@ -45,7 +52,10 @@ impl Walk<'_> {
     {
         match self.pass {
             Pass::Tables => self.item_table(before, around, tab),
-            Pass::Columns | Pass::Calls | Pass::Texts => Ok(()),
+            Pass::Sources(protected) if is_bad_source(self.catalog, protected, &tab.table) => {
+                unknown(self.alloc, tab.table.as_str())
+            }
+            Pass::Sources(_) | Pass::Columns | Pass::Calls | Pass::Texts => Ok(()),
         }
     }
 
@@ -71,7 +81,7 @@ impl Walk<'_> {
                 Meaning::Found(_, _) => Ok(()),
                 Meaning::Unknown(name) => unknown(self.alloc, name.as_str()),
             },
-            Pass::Tables | Pass::Calls | Pass::Texts => Ok(()),
+            Pass::Tables | Pass::Calls | Pass::Texts | Pass::Sources(_) => Ok(()),
         }
     }
 
@@ -95,7 +105,7 @@ impl Walk<'_> {
                 Some(at) => Err(Stop::Refused(Refused::BadLabel(at))),
                 None => Ok(()),
             },
-            Pass::Tables | Pass::Columns => Ok(()),
+            Pass::Tables | Pass::Columns | Pass::Sources(_) => Ok(()),
         }
     }
 
@@ -105,7 +115,7 @@ impl Walk<'_> {
     {
         match self.pass {
             Pass::Calls => self.call_label(policy, label),
-            Pass::Tables | Pass::Columns | Pass::Texts => Ok(()),
+            Pass::Tables | Pass::Columns | Pass::Texts | Pass::Sources(_) => Ok(()),
         }
     }
 
@@ -115,7 +125,7 @@ impl Walk<'_> {
     {
         match self.pass {
             Pass::Calls => self.call_policy(policy),
-            Pass::Tables | Pass::Columns | Pass::Texts => Ok(()),
+            Pass::Tables | Pass::Columns | Pass::Texts | Pass::Sources(_) => Ok(()),
         }
     }
 
@@ -183,4 +193,33 @@ fn is_taken(stored: bool, before: &[Name], around: &[Name], name: &Name) -> bool
     ensures { result ≡ passes.is_taken stored before.now around.now name.now }
 {
     holds(name, before) || (stored && holds(name, around))
+}
+
+/// Whether a subquery of a permission or mask of the protected table may not read the table of this name: it is the protected one, or
+/// has a label column.
+fn is_bad_source(catalog: &Catalog, protected: &Name, name: &Name) -> bool
+    ensures { result ≡ control.is_bad_source (bare catalog.now) protected.now name.now }
+{
+    name.is(protected) || has_labels(catalog, name)
+}
+
+/// Whether the table is there and has a label column.
+fn has_labels(catalog: &Catalog, name: &Name) -> bool
+    ensures { result ≡ control.has_labels (table_named (bare catalog.now) name.now) }
+{
+    match catalog.table(name) {
+        Some(table) => has_label_column(table.columns.as_slice()),
+        None => false,
+    }
+}
+
+fn has_label_column(columns: &[ColumnRec]) -> bool
+    ensures { result ≡ list_any is_label_column columns.now }
+{
+    for column in columns {
+        if let Ty::Label(_) = &column.ty {
+            return true;
+        }
+    }
+    false
 }

@@ -95,8 +95,8 @@ fn value_passes(alloc: Global, catalog: &Catalog, on: &Tab, value: &Expr) -> Res
 }
 
 #[tactic(auto, using(crate::proofs::Whole::statement_is))]
-fn pass_statement(alloc: Global, catalog: &Catalog, pass: Pass, stmt: &Stmt) -> Result<(), Stop>
-    ensures { Passes result (first (refusal_in (catalogue catalog.now) false pass) (marks.marks_of stmt.now)) }
+fn pass_statement(alloc: Global, catalog: &Catalog, pass: Pass<'_>, stmt: &Stmt) -> Result<(), Stop>
+    ensures { Passes result (first (refusal_in catalog.now false pass.entry) (marks.marks_of stmt.now)) }
 {
     let walk = Walk {
         alloc,
@@ -107,15 +107,16 @@ fn pass_statement(alloc: Global, catalog: &Catalog, pass: Pass, stmt: &Stmt) -> 
     walk.statement(stmt)
 }
 
+/// Asks the names of the condition of a permission on a table.
 #[tactic(auto, using(crate::proofs::Whole::condition_is))]
-fn pass_condition(
+pub fn pass_condition(
     alloc: Global,
     catalog: &Catalog,
-    pass: Pass,
+    pass: Pass<'_>,
     on: &Tab,
     condition: &Cond,
 ) -> Result<(), Stop>
-    ensures { Passes result (first (refusal_in (catalogue catalog.now) true pass) (marks.permission_marks on.now condition.now)) }
+    ensures { Passes result (first (refusal_in catalog.now true pass.entry) (marks.permission_marks on.now condition.now)) }
 {
     let walk = Walk {
         alloc,
@@ -127,15 +128,16 @@ fn pass_condition(
     walk.cond(condition, &sight)
 }
 
+/// Asks the names of the CASE of a mask on a table.
 #[tactic(auto, using(crate::proofs::Whole::value_is))]
-fn pass_value(
+pub fn pass_value(
     alloc: Global,
     catalog: &Catalog,
-    pass: Pass,
+    pass: Pass<'_>,
     on: &Tab,
     value: &Expr,
 ) -> Result<(), Stop>
-    ensures { Passes result (first (refusal_in (catalogue catalog.now) true pass) (marks.mask_marks on.now value.now)) }
+    ensures { Passes result (first (refusal_in catalog.now true pass.entry) (marks.mask_marks on.now value.now)) }
 {
     let walk = Walk {
         alloc,
