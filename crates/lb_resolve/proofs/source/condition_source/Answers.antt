@@ -1,0 +1,12 @@
+use Rattle.std.proofs.Common.{subst, find}
+use Rattle.lb_alter.specs.ChangeControl.{is_bad_source}
+use Rattle.lb_cat.specs.Stamps.{bare}
+use Rattle.lb_names.specs.Mentions.{in_cond, tables_in}
+use Rattle.lb_resolve.specs.Passing.{Passes}
+use Rattle.lb_resolve.proofs.Sources.{condition_sources}
+use Rattle.lb_resolve.proofs.source.condition_source.Goals as goal
+
+pub returns : goal.returns
+returns c =
+    c.first_source.ensures (find (is_bad_source (bare c.args.catalog.now) c.args.protected.now) (tables_in (in_cond c.args.condition.now)))
+    (subst (Passes c.pass_condition.result) (condition_sources (bare c.args.catalog.now) c.args.protected.now c.args.on.now c.args.condition.now) c.pass_condition.ensures)
