@@ -1,0 +1,52 @@
+-- How a statement goes on after one of its tests, or stops there.
+use Rattle.std.proofs.Common.{ℕ, ◌≡◌, ap, sym, subst, List, [], ◌∷◌, Option, None}
+use Rattle.lb_base.specs.declared.key.Key.TheVariants as keys
+use Rattle.std.specs.Prelude.{Result, Ok, Err}
+use Rattle.lb_cat.specs.declared.refusal.Refusal.{Refusal}
+use Rattle.lb_cat.specs.OrRefused.{OrRefused, ◌>>=◌}
+use Rattle.lb_cat.specs.Stamps.{Kept}
+use Rattle.lb_rows.specs.Tables.{Tables, Version, put_version}
+use Rattle.lb_cat.specs.Catalog.{Cat, Table, put_table}
+use Rattle.lb_alter.specs.Refusing.{◌>>◌, Changed, alters, done}
+use Rattle.lb_changed.specs.declared.changed.Changed.{Changed as Made}
+use Rattle.lb_changed.specs.declared.stop.Stop.{Stop}
+use Rattle.lb_changed.specs.declared.stop.Stop.TheVariants as stops
+use Rattle.lb_changed.specs.Given.{IsRefused, Refuses}
+use Rattle.lb_changed.specs.Made.{Makes}
+
+-- what is refused makes nothing
+pub makes_none : (K : Kept) (T : Tables) (given : OrRefused Changed) (s : Stop) → IsRefused given s → Makes K T given (Err s)
+makes_none K T (Ok said) s h = h
+makes_none K T (Err r) s h = h
+
+-- a test that refuses ends the statement
+pub stops_then : (K : Kept) (T : Tables) (test : Option Refusal) (rest : OrRefused Changed) (s : Stop) → Refuses test s → Makes K T (test >> rest) (Err s)
+stops_then K T test rest (stops.Refused r) h = makes_none K T (test >> rest) (stops.Refused r) (ap (λ t. t >> rest) h)
+stops_then K T test rest stops.NoMemory h = makes_none K T (test >> rest) stops.NoMemory tt
+
+-- after a test that passes the rest decides
+pub passes_then : (K : Kept) (T : Tables) (result : Result Made Stop) (test : Option Refusal) (rest : OrRefused Changed) → test ≡ None → Makes K T rest result → Makes K T (test >> rest) result
+passes_then K T result test rest h g = subst (λ t. Makes K T (t >> rest) result) (sym h) g
+
+-- what isn't given ends the statement
+pub refused_then : {A : Type 0} (K : Kept) (T : Tables) (given : OrRefused A) (rest : A → OrRefused Changed) (s : Stop) → IsRefused given s → Makes K T (given >>= rest) (Err s)
+refused_then K T given rest (stops.Refused r) h = makes_none K T (given >>= rest) (stops.Refused r) (ap (λ g. g >>= rest) h)
+refused_then K T given rest stops.NoMemory h = makes_none K T (given >>= rest) stops.NoMemory tt
+
+-- what is given goes into the rest
+pub given_then : {A : Type 0} (K : Kept) (T : Tables) (result : Result Made Stop) (given : OrRefused A) (rest : A → OrRefused Changed) (x : A) → given ≡ Ok x → Makes K T (rest x) result → Makes K T (given >>= rest) result
+given_then K T result given rest x h g = subst (λ m. Makes K T (m >>= rest) result) (sym h) g
+
+pub ruleset steps = (stops_then, passes_then, refused_then, given_then)
+
+-- a table's record in other words
+pub alters_same : (K : Kept) (T : Tables) (C : Cat) (t u : Table) (result : Result Made Stop) → t ≡ u → Makes K T (alters C T t) result → Makes K T (alters C T u) result
+alters_same K T C t u result h g = subst (λ v. Makes K T (alters C T v) result) h g
+
+-- a table's record and rows in other words
+pub rows_same : (K : Kept) (T : Tables) (C : Cat) (t u : Table) (v w : Version) (m n : List ℕ) (result : Result Made Stop) → t ≡ u → v ≡ w → m ≡ n
+    → Makes K T (done (put_table t C) (put_version v T) (keys.Table m ∷ keys.Rows m ∷ [])) result → Makes K T (done (put_table u C) (put_version w T) (keys.Table n ∷ keys.Rows n ∷ [])) result
+rows_same K T C t u v w m n result h g i made =
+    subst (λ x. Makes K T (done (put_table u C) (put_version w T) (keys.Table x ∷ keys.Rows x ∷ [])) result) i
+    (subst (λ x. Makes K T (done (put_table u C) (put_version x T) (keys.Table m ∷ keys.Rows m ∷ [])) result) g
+    (subst (λ x. Makes K T (done (put_table x C) (put_version v T) (keys.Table m ∷ keys.Rows m ∷ [])) result) h made))

@@ -1,0 +1,6 @@
+use Rattle.std.proofs.Common.{arith}
+use Rattle.lb_tables.proofs.Steps.{steps}
+use Rattle.lb_tables.proofs.alter.secure_column.Goals as goal
+
+pub returns : goal.returns
+returns c T = grind (arith, steps, c.column_secured.ensures T)
