@@ -1,6 +1,5 @@
 // ALTER TABLE, but for access control.
 ghost use Rattle.std.specs.Prelude.{◌≡◌, ◌+◌, ◌*◌, ◌++◌, ◌∷◌, [], true, false, Some, is_none, is_some, map, length, nat_le, nat_lt, option_map, IfOk};
-
 ghost use Rattle.lb_base.specs.declared.key.Key.TheVariants as keys;
 ghost use Rattle.lb_alter.specs.AlterTable as definitions;
 ghost use Rattle.lb_alter.specs.ChangeTable.{has_width, is_label_type};

@@ -1,6 +1,5 @@
 // The elements of CREATE TABLE: its columns, and the columns that are keys.
 ghost use Rattle.std.specs.Prelude.{◌≡◌, ◌≤◌, length, position};
-
 ghost use Rattle.lb_cat.specs.Catalog.{is_among};
 ghost use Rattle.lb_alter.specs.ChangeTable as definitions;
 ghost use Rattle.lb_alter.specs.ChangeTable.{columns_in, keys_in};
