@@ -1,0 +1,7 @@
+pub mod Exempting
+pub mod Found
+pub mod Holders
+pub mod Labels
+pub mod Leaving
+pub mod Revoking
+pub mod Steps

@@ -1,0 +1,18 @@
+use Rattle.std.proofs.Common.{ap, ◌∙◌}
+use Rattle.lb_cat.specs.Catalog.{User}
+use Rattle.lb_cat.specs.Stamps.{Kept}
+use Rattle.lb_alter.specs.ChangeGrant.{with_role}
+use Rattle.lb_grant.proofs.Leaving.{granted}
+use Rattle.lb_grant.proofs.Steps.{passes_then}
+use Rattle.lb_grant.proofs.role.grant_role.Goals as goal
+
+pub returns : goal.returns
+returns c T =
+    let K : Kept = c.args.catalog.now in
+    let f : User → User = with_role c.args.role.now in
+    passes_then K T c.leaves.result _ _ c.in_ok-secadm.ensures
+    (passes_then K T c.leaves.result _ _ c.in_ok-the_role.ensures
+    (granted K T c.leaves.result c.args.to.now f c.in_ok-changed.changed
+    (c.in_ok-changed.ensures.record ∙ ap f c.in_ok-before.ensures.record)
+    (c.in_ok-changed.ensures.name ∙ c.in_ok-before.ensures.name)
+    (c.leaves.ensures T)))

@@ -1,0 +1,2 @@
+pub mod Exempting
+pub mod Labelling
