@@ -10,7 +10,7 @@ use Rattle.lb_cat.specs.declared.catalog.TableRec.{TableRec}
 use Rattle.lb_cat.specs.Stamps.{Kept, kept_policy, kept_table, look, stamp_or}
 
 -- what is found passes the test
-found_passes : {A : Type 0} (test : A → Bool) (xs : List A) (x : A) → find test xs ≡ Some x → test x ≡ true
+pub found_passes : {A : Type 0} (test : A → Bool) (xs : List A) (x : A) → find test xs ≡ Some x → test x ≡ true
 found_passes test [] x h = absurd cc
 found_passes test (y ∷ ys) x h =
     elim (test y) as (λ b. test y ≡ b → cond b (Some y) (find test ys) ≡ Some x → test x ≡ true) [

@@ -4,4 +4,3 @@ pub mod Holders
 pub mod Labels
 pub mod Leaving
 pub mod Revoking
-pub mod Steps

@@ -21,7 +21,7 @@ use Rattle.lb_changed.specs.declared.stop.Stop.TheVariants as stops
 use Rattle.lb_changed.specs.Given.{IsRefused, StopsFor}
 use Rattle.lb_changed.specs.Made.{Makes}
 use Rattle.lb_grant.specs.Labelling.{label_revoked}
-use Rattle.lb_grant.proofs.Steps.{makes_none}
+use Rattle.lb_changed.proofs.Steps.{makes_none}
 
 -- the test and what is made, of a user who may have no record
 abbrev pub revoked_from : Cat → Tables → LabelName → List ℕ → Option User → OrRefused Changed

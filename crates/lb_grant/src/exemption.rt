@@ -17,7 +17,7 @@ use lb_stmt::Exempted;
 use std::alloc::Global;
 
 /// GRANT EXEMPTION (GRANT (exemption) statement). NotSecadm, or Unknown where there is no such policy.
-#[tactic(auto, using(crate::proofs::Steps::steps))]
+#[tactic(auto, using(lb_changed::proofs::Steps::steps))]
 pub fn grant_exemption(
     alloc: Global,
     catalog: &Catalog,
@@ -36,7 +36,7 @@ pub fn grant_exemption(
 }
 
 /// REVOKE EXEMPTION (REVOKE (exemption) statement). NotSecadm, or Unknown where there is no such policy.
-#[tactic(auto, using(crate::proofs::Steps::steps))]
+#[tactic(auto, using(lb_changed::proofs::Steps::steps))]
 pub fn revoke_exemption(
     alloc: Global,
     catalog: &Catalog,

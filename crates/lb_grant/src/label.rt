@@ -28,7 +28,7 @@ use std::alloc::Global;
 /// GRANT SECURITY LABEL (GRANT (security label) statement). NotSecadm; Unknown where there is no such policy, or no such label of it;
 /// Exists with the label that the user holds for reading, or writing, where it is another one and the grant includes that access;
 /// GrantMismatch with the first component in which what the user would hold for reading and for writing don't agree.
-#[tactic(auto, using(crate::proofs::Steps::steps))]
+#[tactic(auto, using(lb_changed::proofs::Steps::steps))]
 pub fn grant_label(
     alloc: Global,
     catalog: &Catalog,
@@ -46,7 +46,7 @@ pub fn grant_label(
 }
 
 /// The grant of a label of this policy.
-#[tactic(auto, using(crate::proofs::Steps::steps))]
+#[tactic(auto, using(lb_changed::proofs::Steps::steps))]
 fn grant_label_of(
     alloc: Global,
     catalog: &Catalog,
@@ -68,7 +68,7 @@ fn grant_label_of(
 
 /// REVOKE SECURITY LABEL (REVOKE (security label) statement), from reading and from writing. NotSecadm; Unknown where there is no such
 /// policy, no such label of it, or the user doesn't hold it.
-#[tactic(auto, using(crate::proofs::Steps::steps))]
+#[tactic(auto, using(lb_changed::proofs::Steps::steps))]
 pub fn revoke_label(
     alloc: Global,
     catalog: &Catalog,
@@ -89,7 +89,7 @@ pub fn revoke_label(
 }
 
 /// The change that takes the label from the user: Unknown where the user doesn't hold it.
-#[tactic(auto, using(crate::proofs::Steps::steps))]
+#[tactic(auto, using(lb_changed::proofs::Steps::steps))]
 fn take_label(
     alloc: Global,
     catalog: &Catalog,

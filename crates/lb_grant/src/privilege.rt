@@ -17,7 +17,7 @@ use std::alloc::Global;
 
 /// GRANT of privileges on a table to a user or to PUBLIC (GRANT (table, view, or nickname privileges) statement). Unknown where there is
 /// no such table, or Privilege with CONTROL where the user doesn't own it.
-#[tactic(auto, using(crate::proofs::Steps::steps))]
+#[tactic(auto, using(lb_changed::proofs::Steps::steps))]
 pub fn grant_privileges(
     alloc: Global,
     catalog: &Catalog,
@@ -34,7 +34,7 @@ pub fn grant_privileges(
 
 /// REVOKE of privileges on a table from a user or from PUBLIC (REVOKE (table, view, or nickname privileges) statement). Unknown where
 /// there is no such table, or Privilege with CONTROL where the user doesn't own it.
-#[tactic(auto, using(crate::proofs::Steps::steps))]
+#[tactic(auto, using(lb_changed::proofs::Steps::steps))]
 pub fn revoke_privileges(
     alloc: Global,
     catalog: &Catalog,

@@ -19,7 +19,7 @@ use std::alloc::Global;
 use std::sync::Arc;
 
 /// CREATE ROLE (CREATE ROLE statement). NotSecadm, or Exists where there is such a role.
-#[tactic(auto, using(crate::proofs::Steps::steps))]
+#[tactic(auto, using(lb_changed::proofs::Steps::steps))]
 pub fn create_role(
     alloc: Global,
     catalog: &Catalog,
@@ -38,7 +38,7 @@ pub fn create_role(
 }
 
 /// DROP ROLE (DROP statement). NotSecadm, Unknown where there is no such role, or InUse with the first user who has it.
-#[tactic(auto, using(crate::proofs::Steps::steps))]
+#[tactic(auto, using(lb_changed::proofs::Steps::steps))]
 pub fn drop_role(
     alloc: Global,
     catalog: &Catalog,
@@ -59,7 +59,7 @@ pub fn drop_role(
 }
 
 /// GRANT ROLE (GRANT (role) statement). NotSecadm, or Unknown where there is no such role.
-#[tactic(auto, using(crate::proofs::Steps::steps))]
+#[tactic(auto, using(lb_changed::proofs::Steps::steps))]
 pub fn grant_role(
     alloc: Global,
     catalog: &Catalog,
@@ -77,7 +77,7 @@ pub fn grant_role(
 }
 
 /// REVOKE ROLE (REVOKE (role) statement). NotSecadm, or Unknown where there is no such role.
-#[tactic(auto, using(crate::proofs::Steps::steps))]
+#[tactic(auto, using(lb_changed::proofs::Steps::steps))]
 pub fn revoke_role(
     alloc: Global,
     catalog: &Catalog,

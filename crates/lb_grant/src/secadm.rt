@@ -11,7 +11,7 @@ use lb_changed::{Changed, Stop, secadm};
 use std::alloc::Global;
 
 /// GRANT SECADM (GRANT (database authorities) statement). Refused NotSecadm where the user has no SECADM authority.
-#[tactic(auto, using(crate::proofs::Steps::steps))]
+#[tactic(auto, using(lb_changed::proofs::Steps::steps))]
 pub fn grant_secadm(
     alloc: Global,
     catalog: &Catalog,
@@ -28,7 +28,7 @@ pub fn grant_secadm(
 
 /// REVOKE SECADM (REVOKE (database authorities) statement), also from the last who has it. Refused NotSecadm where the user has no SECADM
 /// authority.
-#[tactic(auto, using(crate::proofs::Steps::steps))]
+#[tactic(auto, using(lb_changed::proofs::Steps::steps))]
 pub fn revoke_secadm(
     alloc: Global,
     catalog: &Catalog,

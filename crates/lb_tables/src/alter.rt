@@ -31,7 +31,7 @@ use std::sync::Arc;
 /// statement). The first refusal of these: Unknown, or Privilege where another user owns the table; Exists where the table has a
 /// column of that name; Limit where it has 64 columns, for the width, and where its rows times its columns would be more than
 /// 131,072.
-#[tactic(auto, using(crate::proofs::Steps::steps))]
+#[tactic(auto, using(lb_changed::proofs::Steps::steps))]
 pub fn add_column(
     alloc: Global,
     catalog: &Catalog,
@@ -130,7 +130,7 @@ fn plain_column(column: &Name, ty: PlainType) -> Result<ColumnRec, NoMemory>
 
 /// ALTER TABLE .. ADD SECURITY POLICY (ALTER TABLE statement). The first refusal of these: Unknown, or Privilege where another
 /// user owns the table; Exists where the table has a policy; Unknown where there is no such policy.
-#[tactic(auto, using(crate::proofs::Steps::steps))]
+#[tactic(auto, using(lb_changed::proofs::Steps::steps))]
 pub fn add_policy(
     alloc: Global,
     catalog: &Catalog,
@@ -155,7 +155,7 @@ fn exists_already(alloc: Global, policy: &Option<Name>) -> Result<(), Stop>
     }
 }
 
-#[tactic(auto, using(crate::proofs::Steps::steps))]
+#[tactic(auto, using(lb_changed::proofs::Steps::steps))]
 fn policy_added(
     alloc: Global,
     catalog: &Catalog,
@@ -182,7 +182,7 @@ fn with_policy(alloc: Global, table: &TableRec, policy: &Name) -> Result<TableRe
 /// ALTER TABLE .. ALTER COLUMN .. SECURED WITH, which replaces a label that secures the column (ALTER TABLE statement). The first
 /// refusal of these: Unknown, or Privilege where another user owns the table; Unknown for the column; BadTable with NoPolicy where
 /// the table has no policy, and with LabelKey where the column holds labels; Unknown where the policy has no such label.
-#[tactic(auto, using(crate::proofs::Steps::steps))]
+#[tactic(auto, using(lb_changed::proofs::Steps::steps))]
 pub fn secure_column(
     alloc: Global,
     catalog: &Catalog,
@@ -228,7 +228,7 @@ fn holds_no_labels(alloc: Global, found: &ColumnRec, column: &Name) -> Result<()
     Ok(())
 }
 
-#[tactic(auto, using(crate::proofs::Steps::steps))]
+#[tactic(auto, using(lb_changed::proofs::Steps::steps))]
 fn column_secured(
     alloc: Global,
     catalog: &Catalog,
@@ -260,7 +260,7 @@ fn with_secured(
 
 /// ALTER TABLE .. ALTER COLUMN .. DROP COLUMN SECURITY (ALTER TABLE statement). The first refusal of these: Unknown, or Privilege
 /// where another user owns the table; Unknown for the column.
-#[tactic(auto, using(crate::proofs::Steps::steps))]
+#[tactic(auto, using(lb_changed::proofs::Steps::steps))]
 pub fn unsecure_column(
     alloc: Global,
     catalog: &Catalog,

@@ -15,7 +15,7 @@ use std::alloc::Global;
 
 /// ALTER TABLE .. ACTIVATE and DEACTIVATE ROW or COLUMN ACCESS CONTROL, one act or two in their order (ALTER TABLE statement).
 /// NotSecadm comes before Unknown.
-#[tactic(auto, using(crate::proofs::Steps::steps))]
+#[tactic(auto, using(lb_changed::proofs::Steps::steps))]
 pub fn activate(
     alloc: Global,
     catalog: &Catalog,

@@ -29,7 +29,7 @@ use std::alloc::Global;
 /// CREATE TABLE, whose user becomes the owner (CREATE TABLE statement). The first refusal of these: Exists where there is a table of
 /// that name; Limit for 64 tables and 64 columns; for each column Exists and Limit for its width; Unknown where PRIMARY KEY names no
 /// column, and for the policy; BadTable with what is wrong with a column; Unknown for the label that secures a column.
-#[tactic(auto, using(crate::proofs::Steps::steps))]
+#[tactic(auto, using(lb_changed::proofs::Steps::steps))]
 pub fn create_table(
     alloc: Global,
     catalog: &Catalog,

@@ -4,7 +4,7 @@ use Rattle.lb_cat.specs.Holdings.{with_exemptions}
 use Rattle.lb_cat.specs.Stamps.{Kept}
 use Rattle.lb_alter.specs.ChangeGrant.{exempting}
 use Rattle.lb_grant.proofs.Leaving.{granted}
-use Rattle.lb_grant.proofs.Steps.{given_then, passes_then}
+use Rattle.lb_changed.proofs.Steps.{given_then, passes_then}
 use Rattle.lb_grant.proofs.exemption.grant_exemption.Goals as goal
 
 pub returns : goal.returns

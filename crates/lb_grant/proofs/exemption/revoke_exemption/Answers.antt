@@ -6,7 +6,7 @@ use Rattle.lb_cat.specs.Holdings.{without_exemptions}
 use Rattle.lb_cat.specs.Stamps.{Kept, bare, bare_user}
 use Rattle.lb_alter.specs.ChangeGrant.{exempting}
 use Rattle.lb_grant.proofs.Leaving.{revoked, revoked_none}
-use Rattle.lb_grant.proofs.Steps.{given_then, passes_then}
+use Rattle.lb_changed.proofs.Steps.{given_then, passes_then}
 use Rattle.lb_grant.proofs.exemption.revoke_exemption.Goals as goal
 
 pub returns-in_ok-changed-in-Some : goal.returns-in_ok-changed-in-Some

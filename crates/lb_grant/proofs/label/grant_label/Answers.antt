@@ -8,7 +8,7 @@ use Rattle.lb_cat.specs.Stamps.{Kept, bare, bare_policy}
 use Rattle.lb_changed.specs.Made.{Makes}
 use Rattle.lb_grant.specs.Labelling.{label_granted}
 use Rattle.lb_grant.proofs.Labels.{policy_has_labels}
-use Rattle.lb_grant.proofs.Steps.{given_then, passes_then}
+use Rattle.lb_changed.proofs.Steps.{given_then, passes_then}
 use Rattle.lb_grant.proofs.label.grant_label.Goals as goal
 
 pub grant_label_of-requires : goal.grant_label_of-requires

@@ -15,7 +15,7 @@ use Rattle.lb_changed.specs.Made.{Makes}
 use Rattle.lb_grant.specs.Labelling.{label_given}
 use Rattle.lb_grant.proofs.Labels.{at_once}
 use Rattle.lb_grant.proofs.Leaving.{granted}
-use Rattle.lb_grant.proofs.Steps.{given_then, refused_then}
+use Rattle.lb_changed.proofs.Steps.{given_then, refused_then}
 use Rattle.lb_grant.proofs.label.grant_label_of.Goals as goal
 
 pub returns : goal.returns

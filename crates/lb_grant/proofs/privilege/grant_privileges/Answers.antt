@@ -3,7 +3,7 @@ use Rattle.lb_cat.specs.declared.catalog.TableRec.{TableRec}
 use Rattle.lb_cat.specs.Stamps.{Kept, bare, bare_table}
 use Rattle.lb_alter.specs.ChangeGrant.{grant_to}
 use Rattle.lb_changed.specs.Made.{Makes}
-use Rattle.lb_grant.proofs.Steps.{given_then}
+use Rattle.lb_changed.proofs.Steps.{given_then}
 use Rattle.lb_grant.proofs.privilege.grant_privileges.Goals as goal
 
 pub returns : goal.returns

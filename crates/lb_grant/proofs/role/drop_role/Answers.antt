@@ -13,7 +13,7 @@ use Rattle.lb_changed.specs.declared.changed.Changed.{Changed as Made}
 use Rattle.lb_changed.specs.declared.stop.Stop.{Stop}
 use Rattle.lb_changed.specs.Made.{is_rows}
 use Rattle.lb_grant.proofs.Leaving.{made_so}
-use Rattle.lb_grant.proofs.Steps.{passes_then, refuses_as, stops_then}
+use Rattle.lb_changed.proofs.Steps.{passes_then, refuses_as, stops_then}
 use Rattle.lb_grant.proofs.role.drop_role.Goals as goal
 
 pub returns-in_ok-changed-in-None : goal.returns-in_ok-changed-in-None

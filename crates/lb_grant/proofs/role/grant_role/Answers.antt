@@ -3,7 +3,7 @@ use Rattle.lb_cat.specs.Catalog.{User}
 use Rattle.lb_cat.specs.Stamps.{Kept}
 use Rattle.lb_alter.specs.ChangeGrant.{with_role}
 use Rattle.lb_grant.proofs.Leaving.{granted}
-use Rattle.lb_grant.proofs.Steps.{passes_then}
+use Rattle.lb_changed.proofs.Steps.{passes_then}
 use Rattle.lb_grant.proofs.role.grant_role.Goals as goal
 
 pub returns : goal.returns

@@ -5,7 +5,7 @@ use Rattle.lb_cat.specs.Catalog.{User, user_named}
 use Rattle.lb_cat.specs.Stamps.{Kept, bare, bare_user}
 use Rattle.lb_alter.specs.ChangeGrant.{without_role}
 use Rattle.lb_grant.proofs.Leaving.{revoked, revoked_none}
-use Rattle.lb_grant.proofs.Steps.{passes_then}
+use Rattle.lb_changed.proofs.Steps.{passes_then}
 use Rattle.lb_grant.proofs.role.revoke_role.Goals as goal
 
 pub returns-in_ok-changed-in-Some : goal.returns-in_ok-changed-in-Some

@@ -2,7 +2,7 @@ use Rattle.std.proofs.Common.{true, ap}
 use Rattle.lb_cat.specs.declared.catalog.UserRec.{UserRec}
 use Rattle.lb_alter.specs.ChangeGrant.{with_secadm}
 use Rattle.lb_grant.proofs.Leaving.{granted}
-use Rattle.lb_grant.proofs.Steps.{passes_then}
+use Rattle.lb_changed.proofs.Steps.{passes_then}
 use Rattle.lb_grant.proofs.secadm.grant_secadm.Goals as goal
 
 pub returns : goal.returns

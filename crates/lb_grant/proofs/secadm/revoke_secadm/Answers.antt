@@ -5,7 +5,7 @@ use Rattle.lb_cat.specs.Catalog.{user_named}
 use Rattle.lb_cat.specs.Stamps.{bare, bare_user}
 use Rattle.lb_alter.specs.ChangeGrant.{with_secadm}
 use Rattle.lb_grant.proofs.Leaving.{revoked, revoked_none}
-use Rattle.lb_grant.proofs.Steps.{passes_then}
+use Rattle.lb_changed.proofs.Steps.{passes_then}
 use Rattle.lb_grant.proofs.secadm.revoke_secadm.Goals as goal
 
 pub returns-in-Some : goal.returns-in-Some

@@ -1,7 +1,7 @@
 use Rattle.std.specs.Arc.{arc_value}
 use Rattle.lb_cat.specs.Stamps.{bare, bare_table}
 use Rattle.lb_rows.specs.Stamped.{rows_only}
-use Rattle.lb_tables.proofs.Steps.{rows_same}
+use Rattle.lb_tables.proofs.Same.{rows_same}
 use Rattle.lb_tables.proofs.alter.column_added.Goals as goal
 
 pub returns : goal.returns

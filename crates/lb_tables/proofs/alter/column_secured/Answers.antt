@@ -1,5 +1,5 @@
 use Rattle.lb_cat.specs.Stamps.{bare, bare_table}
-use Rattle.lb_tables.proofs.Steps.{alters_same}
+use Rattle.lb_tables.proofs.Same.{alters_same}
 use Rattle.lb_tables.proofs.alter.column_secured.Goals as goal
 
 pub returns : goal.returns

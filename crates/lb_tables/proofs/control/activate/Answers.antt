@@ -1,5 +1,5 @@
 use Rattle.std.proofs.Common.{arith}
-use Rattle.lb_tables.proofs.Steps.{steps}
+use Rattle.lb_changed.proofs.Steps.{steps}
 use Rattle.lb_tables.proofs.control.activate.Goals as goal
 
 pub returns : goal.returns

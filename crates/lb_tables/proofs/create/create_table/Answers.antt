@@ -11,7 +11,7 @@ use Rattle.lb_rows.specs.Tables.{put_version}
 use Rattle.lb_alter.specs.ChangeTable.{columns_in, columns_refusal, flaws_refusal, key_refusal, keys_in, new_table, policy_of, policy_refusal, secured_refusal}
 use Rattle.lb_alter.specs.Refusing.{◌>>◌, Changed, done, each_passes, when}
 use Rattle.lb_tables.proofs.Passed.{all_makeable}
-use Rattle.lb_tables.proofs.Steps.{passes_then}
+use Rattle.lb_changed.proofs.Steps.{passes_then}
 use Rattle.lb_tables.proofs.create.create_table.Goals as goal
 
 pub created-requires-clause-makeable : goal.created-requires-clause-makeable

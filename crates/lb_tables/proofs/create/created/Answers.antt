@@ -1,6 +1,6 @@
 use Rattle.std.specs.Arc.{arc_value}
 use Rattle.lb_cat.specs.Stamps.{bare, bare_table}
-use Rattle.lb_tables.proofs.Steps.{rows_same}
+use Rattle.lb_tables.proofs.Same.{rows_same}
 use Rattle.lb_tables.proofs.create.created.Goals as goal
 
 pub returns : goal.returns
