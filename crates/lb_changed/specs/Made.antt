@@ -1,5 +1,5 @@
 -- What a change leaves in the program, beside what the definitions say.
-use Rattle.std.specs.Prelude.{◌≡◌, Bool, true, false, List, Option, None, Some, option_map, Result, Ok, Err}
+use Rattle.std.specs.Prelude.{ℕ, ◌≡◌, Bool, true, false, List, [], ◌∷◌, Option, None, Some, option_map, Result, Ok, Err}
 use Rattle.std.specs.Arc.{arc_value}
 use Rattle.lb_base.specs.declared.key.Key.{Key}
 use Rattle.lb_base.specs.declared.key.Key.TheVariants as keys
@@ -27,6 +27,11 @@ abbrev pub rows_after : Option Version → List Key → Tables → Tables
 rows_after (Some v) touched T = put_version v T
 rows_after None touched T = without (is_touched touched) T
 
+-- a new version is that of the one table whose rows are touched
+abbrev pub IsOfTouched : Option Version → List Key → Type 0
+IsOfTouched None touched = Unit {0}
+IsOfTouched (Some v) touched = (n : List ℕ) → has_key (keys.Rows n) touched ≡ has_key (keys.Rows n) (keys.Rows v.name ∷ [])
+
 -- no stamp is another one
 abbrev pub StampsStay : Kept → Kept → Type 0
 StampsStay K L = (k : Key) → look L k ≡ look K k
@@ -36,6 +41,7 @@ pub record IsMade (K : Kept) (T : Tables) (said : Changed) (made : Made) : Type 
   pub cat : bare made.catalog ≡ said.cat
   pub tables : rows_after (option_map arc_value made.table) made.touched T ≡ said.tables
   pub touched : made.touched ≡ said.touched
+  pub version : IsOfTouched (option_map arc_value made.table) made.touched
   pub reply : made.reply ≡ said.reply
   pub stamps : (k : Key) → has_key k said.touched ≡ false → look made.catalog k ≡ look K k
 

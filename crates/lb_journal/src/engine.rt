@@ -45,6 +45,10 @@ pub trait Engine {
     /// The engine makes a plan of the statement in the catalogue. This goes when the engine makes one of every query and write.
     ghost builds: { Cat → AnyStmt → Bool };
 
+    /// Whether the engine makes a plan of the query or the write in the catalogue. It takes no memory.
+    fn is_built(catalog: &Catalog, stmt: &Stmt) -> bool
+        ensures { result ≡ builds (bare catalog.now) stmt.now };
+
     /// The plan of a query or a write in a sound catalogue, right for it there. A statement that is refused whatever the session has a
     /// plan too. The DATE literals of the statement and of what the catalogue stores are days of the calendar, as those of every text that
     /// is read are. NoMemory where memory is refused.

@@ -1,4 +1,4 @@
--- Each change of a table keeps that the DATE literals of permissions and masks are days, and that no rows stand under a name that is no table's, statement by statement.
+-- Each change of a table keeps that the DATE literals of permissions and masks are days, and that rows stand under the names of tables alone, once under each, statement by statement.
 use Rattle.std.proofs.Common.{◌≡◌, refl, sym, subst, ◌++◌, cond, ℕ, true, false, not, ◌*◌, ◌+◌, List, [], ◌∷◌, map, length, Option, Some, None, is_some, is_none}
 use Rattle.std.specs.Prelude.{if◌then◌else◌, find, filter, position, option_map, nat_le, nat_lt}
 use Rattle.std.specs.List.{AllByRecursion, list_any}

@@ -1,4 +1,4 @@
--- Each change keeps that the DATE literals of permissions and masks are days, and that no rows stand under a name that is no table's, statement by statement.
+-- Each change keeps that the DATE literals of permissions and masks are days, and that rows stand under the names of tables alone, once under each, statement by statement.
 use Rattle.std.proofs.Common.{refl, ℕ, true, false, not, ◌||◌, List, [], ◌∷◌, map, length, Ok, Err, is_some}
 use Rattle.std.specs.Prelude.{find, filter, option_map, nat_lt}
 use Rattle.lb_base.specs.declared.key.Key.TheVariants as keys

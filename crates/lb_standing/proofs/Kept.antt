@@ -1,5 +1,5 @@
--- What changes keep beside soundness: the DATE literals of permissions and masks are days, and no rows stand under a name that is no table's.
-use Rattle.std.proofs.Common.{◌≡◌, refl, sym, subst, ◌∙◌, ℕ, true, false, not, List, [], ◌∷◌, Option, Some, None, Ok, Err}
+-- What changes keep beside soundness: the DATE literals of permissions and masks are days, and rows stand under the name of a table alone, once under each.
+use Rattle.std.proofs.Common.{◌≡◌, refl, sym, subst, ◌∙◌, ℕ, true, false, not, List, [], ◌∷◌, map, Option, Some, None, Ok, Err}
 use Rattle.std.specs.Prelude.{find}
 use Rattle.std.specs.List.{AllByRecursion}
 use Rattle.std.specs.Str.{bytes_eq}
@@ -10,20 +10,23 @@ use Rattle.lb_cat.specs.declared.refusal.Refusal.{Refusal}
 use Rattle.lb_cat.specs.declared.refusal.Refusal.TheVariants as refusals
 use Rattle.lb_cat.specs.declared.refusal.NeededPrivilege.TheVariants as needed
 use Rattle.lb_rows.specs.Lists.{put, without}
-use Rattle.lb_rows.specs.Tables.{Tables, Version, is_version, put_version, rows_in, rows_of}
+use Rattle.lb_rows.specs.Tables.{Tables, Version, is_version, put_version}
 use Rattle.lb_cat.specs.Catalog.{Cat, Table, User, table_named, is_table, user_named, put_table}
+use Rattle.lb_alter.specs.Named.{AreDifferent}
 use Rattle.lb_alter.specs.ChangeGrant.{grants, revokes, taken_from}
 use Rattle.lb_alter.specs.Refusing.{Changed, ◌>>◌, when, found, owner, done, alters}
 use Rattle.lb_cat.specs.OrRefused.{OrRefused, ◌>>=◌}
+use Rattle.lb_alter.proofs.SoundGrants.{different_kept}
 use Rattle.lb_alter.proofs.SoundTables.{put_case, found_put, found_without}
 use Rattle.lb_alter.proofs.SoundUsers.{all_put, all_filter}
 use Rattle.lb_alter.proofs.Untouched.{without_other}
 use Rattle.lb_fits.specs.Dated.{StoresDays}
 
--- the DATE literals of the tables' permissions and masks are days, and rows stand under the tables' names alone
+-- the DATE literals of the tables' permissions and masks are days, and rows stand under the tables' names alone, once under each
 pub record Kept (ts : List Table) (T : Tables) : Type 0 where
   pub days : AllByRecursion StoresDays ts
-  pub nowhere : (n : List ℕ) → find (is_table n) ts ≡ None → rows_of n T ≡ []
+  pub nowhere : (n : List ℕ) → find (is_table n) ts ≡ None → find (is_version n) T ≡ None
+  pub one_each : AreDifferent (map (λ v. v.name) T)
 
 -- ---- blocks
 
@@ -82,6 +85,7 @@ module _ (C : Cat) (T : Tables) (f : Kept C.tables T) where
   put_kept u days = record {
     days = all_put StoresDays (is_table u.name) u C.tables f.days days;
     nowhere = λ n none. f.nowhere n (before u C.tables n none);
+    one_each = f.one_each;
   }
 
   pub alters_kept : (u : Table) → StoresDays u → LeavesKept (alters C T u)
@@ -91,9 +95,10 @@ module _ (C : Cat) (T : Tables) (f : Kept C.tables T) where
   pub put_both : (u : Table) (v : Version) → u.name ≡ v.name → StoresDays u → Kept (put_table u C).tables (put_version v T)
   put_both u v same days = record {
     days = all_put StoresDays (is_table u.name) u C.tables f.days days;
-    nowhere = λ n none. put_case (λ (x : Version). x.name) (λ (o : Option Version). rows_in o ≡ []) v T n
+    nowhere = λ n none. put_case (λ (x : Version). x.name) (λ (o : Option Version). o ≡ None) v T n
         (λ e. absurd (other u C.tables n none (same ∙ e)))
         (f.nowhere n (before u C.tables n none));
+    one_each = different_kept (λ (x : Version). x.name) v false T f.one_each;
   }
 
   -- a table goes with its rows
@@ -101,12 +106,13 @@ module _ (C : Cat) (T : Tables) (f : Kept C.tables T) where
   without_table n = record {
     days = all_filter StoresDays (λ t. not (is_table n t)) C.tables f.days;
     nowhere = λ m none.
-        elim (bytes_eq n m) as (λ b. bytes_eq n m ≡ b → rows_in (find (is_version m) (without (is_version n) T)) ≡ []) [
-          | true ↦ λ e. subst (λ (k : List ℕ). rows_in (find (is_version k) (without (is_version n) T)) ≡ []) ((bytes_eq-Decides n m).0 e)
-              (subst (λ (o : Option Version). rows_in o ≡ []) (sym (found_without (λ (x : Version). x.name) n T)) refl)
-          | false ↦ λ e. subst (λ (o : Option Version). rows_in o ≡ []) (sym (without_other (λ (x : Version). x.name) n m T e))
+        elim (bytes_eq n m) as (λ b. bytes_eq n m ≡ b → find (is_version m) (without (is_version n) T) ≡ None) [
+          | true ↦ λ e. subst (λ (k : List ℕ). find (is_version k) (without (is_version n) T) ≡ None) ((bytes_eq-Decides n m).0 e)
+              (found_without (λ (x : Version). x.name) n T)
+          | false ↦ λ e. subst (λ (o : Option Version). o ≡ None) (sym (without_other (λ (x : Version). x.name) n m T e))
               (f.nowhere m (sym (without_other (λ (x : Table). x.name) n m C.tables e) ∙ none))
         ] refl;
+    one_each = different_kept (λ (x : Version). x.name) (record { name = n; rows = [] }) true T f.one_each;
   }
 
   -- ---- users

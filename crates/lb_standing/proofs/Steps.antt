@@ -17,13 +17,14 @@ use Rattle.lb_standing.proofs.Changes.{changes_kept}
 
 pub changes_stay : IsSteady stored_rules → StaysSound stored_rules → TablesStayFit stored_rules → ChangesAreAsRead → ChangesHaveDays → ChangesStayStanding
 changes_stay steady sound fit read days c at S user groups day d spoken h =
-    let k : Kept S.cat.tables S.tables = record { days = h.days; nowhere = h.nowhere } in
+    let k : Kept S.cat.tables S.tables = record { days = h.days; nowhere = h.nowhere; one_each = h.one_each } in
     let q = changes_kept S.cat S.tables k user c (days c spoken) in
     record {
       sound = sound steady S.cat S.tables user c (read c spoken) h.sound;
       tables = fit S.cat S.tables user c h.sound h.tables;
       days = q.days;
       nowhere = q.nowhere;
+      one_each = q.one_each;
     }
 
 pub steps_stay : WritesStayStanding → ChangesStayStanding → StepsStayStanding

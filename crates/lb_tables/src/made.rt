@@ -15,14 +15,15 @@ use lb_rows::TableVersion;
 use std::alloc::Global;
 use std::sync::Arc;
 
-/// An accepted change of a table's record and of its rows, where the record has the stamp of its key.
+/// An accepted change of a table's record and of its rows, where the record has the stamp of its key, and the rows are that table's.
 pub(crate) fn with_rows(
     alloc: Global,
     catalog: &Catalog,
     rec: TableRec,
     version: Arc<TableVersion>,
 ) -> Result<Changed, Stop>
-    requires { rec.stamp ≡ look catalog.now (keys.Table rec.name) }
+    requires stamp { rec.stamp ≡ look catalog.now (keys.Table rec.name) }
+    requires of_table { (arc_value version).name ≡ rec.name }
     ensures { (T : Tables) → Makes catalog.now T (refusing.done (cat.put_table (bare_table rec) (bare catalog.now)) (put_version (arc_value version) T) (keys.Table rec.name ∷ keys.Rows rec.name ∷ [])) result }
 {
     let touched = table_keys(alloc, &rec.name)?;

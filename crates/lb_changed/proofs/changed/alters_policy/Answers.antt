@@ -13,6 +13,7 @@ returns c T =
       cat = made.cat ∙ c.in_ok-changed.ensures.bare;
       tables = made.tables;
       touched = made.touched ∙ touched;
+      version = made.version;
       reply = made.reply;
       stamps = λ k h. made.stamps k (ap (has_key k) touched ∙ h);
     }

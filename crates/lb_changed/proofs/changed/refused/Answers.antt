@@ -10,6 +10,7 @@ returns c T = record {
   cat = ap bare c.in_ok-catalog.ensures;
   tables = ap (λ ks. without (is_touched ks) T) c.empty.ensures ∙ rows_stay [] T refl;
   touched = c.empty.ensures;
+  version = tt;
   reply = refl;
   stamps = λ k _. ap (λ (K : Kept). look K k) c.in_ok-catalog.ensures;
 }

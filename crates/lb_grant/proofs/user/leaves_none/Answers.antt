@@ -14,6 +14,7 @@ returns c T =
       cat = made.cat ∙ ap bare c.in_ok-same.ensures;
       tables = made.tables;
       touched = made.touched ∙ touched;
+      version = made.version;
       reply = made.reply;
       stamps = λ k h. made.stamps k (ap (has_key k) touched ∙ h);
     }
