@@ -1,0 +1,4 @@
+pub mod Fewer
+pub mod Gone
+pub mod Growing
+pub mod Keeping
